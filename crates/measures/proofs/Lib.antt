@@ -1,0 +1,4 @@
+pub mod Onward
+pub mod Rows
+pub mod Sums
+pub mod Values
