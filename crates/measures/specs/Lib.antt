@@ -4,3 +4,4 @@ pub mod Laws
 pub mod Rows
 pub mod Sums
 pub mod Values
+pub mod Scale
