@@ -1,0 +1,9 @@
+pub mod Cuts
+pub mod Exits
+pub mod Files
+pub mod Forms
+pub mod Layouts
+pub mod Loads
+pub mod Sections
+pub mod Unique
+pub mod Words
