@@ -15,8 +15,3 @@ pub mod Chains
 pub mod Offers
 pub mod OfferLists
 pub mod Heart
-pub mod Sorted
-pub mod HubCases
-pub mod HubChains
-pub mod OfferCases
-pub mod Cases

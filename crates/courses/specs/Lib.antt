@@ -1,3 +1,2 @@
-pub mod Cases
 pub mod Courses
 pub mod Theorems

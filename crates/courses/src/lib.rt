@@ -4,4 +4,3 @@ pub mod course_offers;
 pub mod course_order;
 pub mod first_lists;
 pub mod least_courses;
-pub mod worked_cases;

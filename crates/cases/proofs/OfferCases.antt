@@ -11,12 +11,12 @@ use Rattle.measures.specs.Scale.{dwell}
 use Rattle.measures.proofs.Onward.{some-same, none-some}
 use Rattle.measures.proofs.Values.{dwell-laws}
 use Rattle.charts.specs.declared.lead.Lead.{Lead}
 use Rattle.courses.specs.Courses.{Course, Leads, Before, Least, Detour, Chain-of, Offer, Earlier, Offers-in-order}
-use Rattle.courses.specs.Cases.{lead, hub, twins}
+use Rattle.cases.specs.Cases.{lead, hub, twins}
 use Rattle.courses.proofs.LeastCourses.{least-one}
 use Rattle.courses.proofs.Settled.{least-at-watched}
 use Rattle.courses.proofs.Chains.{not-empty}
-use Rattle.courses.proofs.Sorted.{before-longer}
+use Rattle.cases.proofs.Sorted.{before-longer}
 
 -- no course leads from mode 2 of the hub to mode 1
 dead-2 : (a : Course) → Leads hub 2 1 a → ⊥

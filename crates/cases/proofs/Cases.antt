@@ -7,12 +7,12 @@ use native.Mathlib.Omega.{arith}
 use Rattle.measures.specs.Scale.{dwell}
 use Rattle.measures.proofs.Onward.{some-same, none-some}
 use Rattle.measures.proofs.Values.{dwell-laws, faults-first-laws}
 use Rattle.courses.specs.Courses.{Course, Leads, Listed}
-use Rattle.courses.specs.Cases.{chart, hub, hub-locked, pair, loop, Worked-cases}
-use Rattle.courses.proofs.Sorted.{Placed, Sorted, before-longer, firsts}
-use Rattle.courses.proofs.HubCases.{by-dwell, by-faults, by-dwell-locked}
-use Rattle.courses.proofs.HubChains.{chain-by-dwell, chain-by-faults}
-use Rattle.courses.proofs.OfferCases.{dead-end, offers-listed}
+use Rattle.cases.specs.Cases.{chart, hub, hub-locked, pair, loop, Worked-cases}
+use Rattle.cases.proofs.Sorted.{Placed, Sorted, before-longer, firsts}
+use Rattle.cases.proofs.HubCases.{by-dwell, by-faults, by-dwell-locked}
+use Rattle.cases.proofs.HubChains.{chain-by-dwell, chain-by-faults}
+use Rattle.cases.proofs.OfferCases.{dead-end, offers-listed}
 
 -- two equal exits
 no-third : (a : Course) → Leads pair 0 1 a → Listed a ((0 ∷ []) ∷ (1 ∷ []) ∷ [])

@@ -14,10 +14,10 @@ use Rattle.measures.proofs.Values.{dwell-laws, faults-first-laws}
 use Rattle.charts.specs.LockMeaning.{lock-on}
 use Rattle.charts.specs.Locks.{locked}
 use Rattle.charts.specs.declared.lead.Lead.{Lead}
 use Rattle.courses.specs.Courses.{Course, Leads, Before}
-use Rattle.courses.specs.Cases.{hub, hub-locked}
+use Rattle.cases.specs.Cases.{hub, hub-locked}
 use Rattle.courses.proofs.Walks.{first-exit, leads-first}
-use Rattle.courses.proofs.Sorted.{Placed, Sorted, before-longer}
+use Rattle.cases.proofs.Sorted.{Placed, Sorted, before-longer}
 
 -- the ways on from mode 0
 from-0 : (P : Course → Type 0) → P (1 ∷ []) → ((b : Course) → Leads hub 1 2 b → P (0 ∷ b)) → (a : Course) → Leads hub 0 2 a → P a

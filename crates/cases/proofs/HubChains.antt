@@ -9,11 +9,11 @@ use Rattle.std.specs.declared.option.Option.the-variants.{Some}
 use Rattle.measures.specs.Scale.{Scale, Lawful-scale, dwell, faults-first}
 use Rattle.measures.proofs.Values.{dwell-laws, faults-first-laws}
 use Rattle.charts.specs.declared.lead.Lead.{Lead}
 use Rattle.courses.specs.Courses.{Exits, Course, value-of, Before, Live, Least, Chain, Detours, Chain-of}
-use Rattle.courses.specs.Cases.{hub}
+use Rattle.cases.specs.Cases.{hub}
 use Rattle.courses.proofs.LeastCourses.{least-one}
-use Rattle.courses.proofs.Sorted.{before-longer, least-first}
-use Rattle.courses.proofs.HubCases.{from-1, some-step, by-dwell, by-faults}
+use Rattle.cases.proofs.Sorted.{before-longer, least-first}
+use Rattle.cases.proofs.HubCases.{from-1, some-step, by-dwell, by-faults}
 
 module _ {V : Type 0} {m : Scale V} (laws : Lawful-scale m) where
   module _ (x : Exits) (t p i e : ℕ) (a : Course) (c : Chain) {r : Course} {l : Lead} where
