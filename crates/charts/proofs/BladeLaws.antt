@@ -1,7 +1,7 @@
 -- The blade chart keeps to what every chart keeps to.
 use mathlib.Core.Path.{_≡_}
 use mathlib.Core.Bool.{Bool, true, false, cond, _&&_}
-use Prim.Native.Nat.{ℕ, _+_, _*_, _/_, _%_, _≤_, _<_}
+use Prim.Native.Nat.{ℕ, _/_, _%_, _≤_, _<_}
 use native.Mathlib.Omega.{arith}
 use lib.Dec.{ltb, lit≤}
 use Rattle.std.specs.Options.{mapped}
@@ -10,9 +10,8 @@ use Rattle.std.specs.declared.option.Option.the-variants.{Some, None}
 use Rattle.std.proofs.shelf.Ways.{tells}
 use Rattle.charts.specs.Blades.{state-number, state-numbered, mode-of, blades-of, state-at, with-state}
 use Rattle.charts.specs.BladeMeaning.{blade-numbered, event-numbered, turn, turn-lead, blade-lead, blade-meaning}
-use Rattle.charts.specs.Meaning.{Meaning, Lawful}
+use Rattle.charts.specs.Meaning.{Lawful}
 use Rattle.charts.specs.declared.lead.Lead.{Lead}
-use Rattle.charts.specs.declared.blade.Event.{Event}
 use Rattle.charts.specs.declared.blade.Turn.{Turn}
 use Rattle.charts.specs.declared.blades.State.{State}
 use Rattle.charts.specs.declared.blades.State.the-variants.{Working, Holding, Feathering, Feathered}

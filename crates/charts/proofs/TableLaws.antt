@@ -14,7 +14,7 @@ use Rattle.std.proofs.shelf.Maps.{nth-getD, nth-past}
 use Rattle.std.proofs.shelf.Tests.{cases-lt, ltb-true, lt-ltb, le-ltb, cond-false}
 use Rattle.std.proofs.shelf.Ways.{tells}
 use Rattle.std.specs.Orderings.{Decides}
-use Rattle.charts.specs.Meaning.{Meaning, Lawful}
+use Rattle.charts.specs.Meaning.{Lawful}
 use Rattle.charts.specs.Tables.{offset, table-modes, table-exits, table-exit, table-meaning, Good-count, Good-offsets, Rising, Known-target, Known-targets, Sound-table, Checked-table}
 use Rattle.charts.specs.declared.fault.ChartFault.{ChartFault}
 use Rattle.charts.specs.declared.lead.Lead.{Lead}

@@ -5,7 +5,6 @@ use lib.Dec.{ltb, eqb, lit≤}
 use Rattle.std.specs.Options.{mapped}
 use Rattle.std.specs.declared.option.Option.{Option}
 use Rattle.std.specs.declared.option.Option.the-variants.{Some, None}
-use Rattle.measures.specs.declared.step.Step.{Step}
 use Rattle.charts.specs.Blades.{mode-of, blades-of, state-at, with-state}
 use Rattle.charts.specs.Meaning.{Meaning}
 use Rattle.charts.specs.declared.lead.Lead.{Lead}

@@ -56,14 +56,14 @@ impl State {
 
 impl Blades {
     // The mode number of these states.
-    pub fn mode(self) -> u32
+    pub(crate) fn mode(self) -> u32
         ensures { λ r. ⌜ r ≡ mode-of self ⌝ }
     {
         16 * self.first.number() + 4 * self.second.number() + self.third.number()
     }
 
     // The states of a mode number.
-    pub fn of_mode(mode: u32) -> Self
+    pub(crate) fn of_mode(mode: u32) -> Self
         ensures states { λ r. ⌜ r ≡ blades-of mode ⌝ }
         ensures same_mode { λ _. ⌜ (mode < 64 → mode-of (blades-of mode) ≡ mode) ⌝ }
     {
@@ -75,7 +75,7 @@ impl Blades {
     }
 
     // What one blade is doing.
-    pub fn state(self, blade: Blade) -> State
+    pub(crate) fn state(self, blade: Blade) -> State
         ensures { λ r. ⌜ r ≡ state-at self blade ⌝ }
     {
         match blade {
@@ -86,7 +86,7 @@ impl Blades {
     }
 
     // The same, but for what one blade is doing.
-    pub fn with_state(self, blade: Blade, state: State) -> Self
+    pub(crate) fn with_state(self, blade: Blade, state: State) -> Self
         ensures { λ r. ⌜ r ≡ with-state self blade state ⌝ }
     {
         let Blades {

@@ -17,7 +17,7 @@ const MOST_OFFSETS: usize = 4_097;
 const MOST_EXITS: u32 = 64;
 
 // What makes a table no chart, if anything does.
-pub fn table_fault(offsets: &[u32], entries: &[Lead]) -> Option<ChartFault>
+pub(crate) fn table_fault(offsets: &[u32], entries: &[Lead]) -> Option<ChartFault>
     ensures { λ r. ⌜ Checked-table (now (offsets .entry)) (now (entries .entry)) r ⌝ }
 {
     if offsets.len() < LEAST_OFFSETS || offsets.len() > MOST_OFFSETS {

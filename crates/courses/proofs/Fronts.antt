@@ -1,16 +1,14 @@
 -- A common front keeps the order of two courses.
 use mathlib.Core.Path.{_≡_, refl, sym, ap, subst, _∙_}
 use mathlib.Core.Logic.{_⊎_, inl, inr, ⊎-elim}
-use mathlib.Core.List.{List, [], _∷_, _++_}
+use mathlib.Core.List.{[], _∷_, _++_}
 use Prim.Native.Nat.{ℕ, _+_, _≤_, _<_}
 use native.Mathlib.Omega.{arith}
 use lib.ListN.{length, length-append}
-use Rattle.std.specs.declared.option.Option.{Option}
-use Rattle.std.specs.declared.option.Option.the-variants.{Some, None}
+use Rattle.std.specs.declared.option.Option.the-variants.{Some}
 use Rattle.measures.specs.Laws.{Below, longest}
 use Rattle.measures.specs.Scale.{Scale, Lawful-scale}
 use Rattle.measures.proofs.Onward.{some-same}
-use Rattle.measures.proofs.Rows as rows
 use Rattle.courses.specs.Courses.{Exits, Course, Leads, value-of, Smaller, Lower, Shorter, Before}
 use Rattle.courses.proofs.Walks.{leads-append, value-exists, value-append}
 

@@ -1,26 +1,25 @@
 -- Why the offers leave nothing out: behind a list of first courses, the first that waits is the next of all.
 use mathlib.Core.Path.{_≡_, refl, sym, ap, subst, _∙_}
 use mathlib.Core.Logic.{_⊎_, inl, inr, ⊎-elim}
-use mathlib.Core.List.{List, [], _∷_, _++_, append-nil, append-assoc}
+use mathlib.Core.List.{List, [], _∷_, _++_, append-assoc}
 use Prim.Native.Nat.{ℕ, zero, suc, _+_, _*_, _≤_, _<_}
 use native.Mathlib.Omega.{arith}
 use lib.ListN.{length, getD, take, length-append}
-use Rattle.std.specs.declared.option.Option.the-variants.{Some}
 use Rattle.std.proofs.shelf.Lists.{take-all, getD-take, length-take-le, getD-append-left, getD-push, length-push}
-use Rattle.std.proofs.shelf.Tests.{cases-lt, cases-order}
+use Rattle.std.proofs.shelf.Tests.{cases-lt}
 use Rattle.measures.specs.Laws.{longest}
 use Rattle.measures.specs.Scale.{Scale, Lawful-scale}
 use Rattle.measures.proofs.Onward.{some-same}
 use Rattle.charts.specs.declared.lead.Lead.{Lead}
-use Rattle.courses.specs.Courses.{Exits, Course, Leads, Before, Least, Dead, Offer, Listed, First-courses, Waiting}
+use Rattle.courses.specs.Courses.{Exits, Course, Leads, Before, Least, Offer, Listed, First-courses, Waiting}
 use Rattle.courses.proofs.Bounds.{Bounded}
 use Rattle.courses.proofs.LeastCourses.{live-least, least-one}
 use Rattle.courses.proofs.Settled.{least-at-watched}
 use Rattle.courses.proofs.Offers.{turn}
 use Rattle.courses.proofs.Walks.{first-exit, leads-append, leads-first}
-use Rattle.courses.proofs.Order.{before-never, before-not-both, before-through}
+use Rattle.courses.proofs.Order.{before-through}
 use Rattle.courses.proofs.Same.{same-course, listed-or-not}
-use Rattle.courses.proofs.Lists.{earlier, apart, front-first}
+use Rattle.courses.proofs.Lists.{earlier, apart}
 use Rattle.courses.proofs.Short.{least-short, least-behind}
 
 -- each course of a list is so short that it can be made of as many least courses as stand before it, and one

@@ -2,8 +2,8 @@
 use mathlib.Core.Path.{_≡_, refl, sym, ap, subst, _∙_}
 use mathlib.Core.Bool.{true, false}
 use mathlib.Core.Logic.{_⊎_, inl, inr, ⊎-elim}
-use mathlib.Core.List.{List, [], _∷_}
-use Prim.Native.Nat.{ℕ, suc, _<_}
+use mathlib.Core.List.{[], _∷_}
+use Prim.Native.Nat.{ℕ, _<_}
 use native.Mathlib.Omega.{arith}
 use lib.ListN.{length}
 use Rattle.std.specs.declared.option.Option.{Option}
@@ -11,7 +11,6 @@ use Rattle.std.specs.declared.option.Option.the-variants.{Some, None}
 use Rattle.std.proofs.shelf.Tests.{cases-bool, cases-order, both-ways}
 use Rattle.measures.specs.Laws.{Below}
 use Rattle.measures.specs.Scale.{Scale, Lawful-scale}
-use Rattle.measures.proofs.Onward.{some-same, none-some}
 use Rattle.measures.proofs.Rows.{at-most-itself}
 use Rattle.courses.specs.Courses.{Exits, Course, value-of, Smaller, Lower, Shorter, Before}
 

@@ -1,8 +1,8 @@
 -- The exits of a mode settle its least course.
 use mathlib.Core.Path.{_≡_, refl, sym, ap, subst, _∙_}
 use mathlib.Core.Logic.{_⊎_, inl, inr, ⊎-elim}
-use mathlib.Core.List.{List, [], _∷_, _++_}
-use Prim.Native.Nat.{ℕ, suc, _+_, _≤_, _<_}
+use mathlib.Core.List.{[], _∷_}
+use Prim.Native.Nat.{ℕ, _+_, _<_}
 use native.Mathlib.Omega.{arith}
 use lib.ListN.{length}
 use Rattle.std.specs.declared.option.Option.{Option}
@@ -20,7 +20,7 @@ use Rattle.courses.specs.Theorems.{Settled}
 use Rattle.courses.proofs.Bounds.{Bounded}
 use Rattle.courses.proofs.LeastCourses.{least-or-dead}
 use Rattle.courses.proofs.Walks.{first-exit, leads-first, steps-first, value-exists, value-append}
-use Rattle.courses.proofs.Order.{at-most-cases, before-never, before-not-both, before-through, before-either}
+use Rattle.courses.proofs.Order.{at-most-cases, before-not-both, before-through, before-either}
 use Rattle.courses.proofs.Fronts.{before-front}
 use Rattle.courses.proofs.Same.{same-course}
 use Rattle.courses.proofs.Short.{short-behind, least-short}

@@ -2,7 +2,7 @@
 use mathlib.Core.Path.{_≡_, refl, sym, ap, subst, _∙_}
 use mathlib.Core.Bool.{true}
 use mathlib.Core.Logic.{_⊎_, inl, inr, ⊎-elim}
-use mathlib.Core.List.{List, [], _∷_, _++_}
+use mathlib.Core.List.{[], _++_}
 use Prim.Native.Nat.{ℕ, _+_, _≤_, _<_}
 use native.Mathlib.Omega.{arith}
 use lib.ListN.{length, length-append}
@@ -10,7 +10,8 @@ use Rattle.std.specs.declared.option.Option.{Option}
 use Rattle.std.specs.declared.option.Option.the-variants.{Some, None}
 use Rattle.measures.specs.Laws.{Below, longest}
 use Rattle.measures.specs.Scale.{Scale, Lawful-scale}
-use Rattle.courses.specs.Courses.{Exits, Course, Leads, value-of, Smaller, Shorter, Before, Least}
+use Rattle.measures.proofs.Onward.{some-same}
+use Rattle.courses.specs.Courses.{Exits, Course, Leads, value-of, Smaller, Before, Least}
 use Rattle.courses.proofs.Bounds.{Bounded}
 use Rattle.courses.proofs.Direct.{direct}
 use Rattle.courses.proofs.Walks.{leads-append, value-exists}
@@ -43,7 +44,7 @@ module _ {V : Type 0} {m : Scale V} (laws : Lawful-scale m) (x : Exits) (n : ℕ
             (λ (same : b ≡ a). inl same)
             (λ (less : length b < length a).
             inr (shorter-first p (f ++ a) (f ++ b) (v .0) (v .1)
-            (λ w h. let k = d .1 .no-greater w h in subst (λ u. m .atMost u w ≡ true) (let z : Some (k .0) ≡ Some (v .0) = sym (k .1) ∙ v .1 in let y : k .0 ≡ v .0 = cc in y) (k .2))
+            (λ w h. let k = d .1 .no-greater w h in subst (λ u. m .atMost u w ≡ true) (some-same (k .0) (v .0) (sym (k .1) ∙ v .1)) (k .2))
             (omega (arith, length-append f a, length-append f b))))
             (d .1 .no-longer),
       )

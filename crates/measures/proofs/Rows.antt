@@ -1,6 +1,6 @@
 -- What the laws of a measure give of rows of steps.
 use mathlib.Core.Path.{_≡_, refl, sym, ap, _∙_}
-use mathlib.Core.Bool.{Bool, true, false}
+use mathlib.Core.Bool.{Bool, true}
 use mathlib.Core.Logic.{⊎-elim}
 use mathlib.Core.List.{List, [], _∷_, _++_}
 use Prim.Native.Nat.{ℕ, _+_, _≤_, _<_}
@@ -12,7 +12,7 @@ use Rattle.std.proofs.shelf.Lists.{at-drop-more}
 use Rattle.std.proofs.shelf.Tests.{cases-bool}
 use Rattle.measures.specs.declared.step.Step.{Step}
 use Rattle.measures.specs.Bracketing.{Bracketing, one, both, count, steps, evaluated}
-use Rattle.measures.specs.Laws.{Laws, Below, longest}
+use Rattle.measures.specs.Laws.{Laws, longest}
 use Rattle.measures.specs.Onward.{onward}
 use Rattle.measures.specs.Rows.{row-from, row-value, Rows-exist, Rows-join, One-value, Fronts-keep, Ends-keep, Nothing-least, Joins-grow}
 use Rattle.measures.proofs.Onward.{some-same, onward-some, onward-parts}

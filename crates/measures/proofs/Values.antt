@@ -1,18 +1,16 @@
 -- The laws of dwell and of faults-first.
 use mathlib.Core.Path.{_≡_, refl, sym, ap, _∙_}
-use mathlib.Core.Bool.{Bool, true, false, _&&_, _||_}
-use mathlib.Core.Logic.{_⊎_, inl, inr, ⊎-elim}
+use mathlib.Core.Bool.{true, false}
+use mathlib.Core.Logic.{_⊎_}
 use Prim.Native.Nat.{ℕ, _+_, _≤_, _<_}
 use native.Mathlib.Omega.{arith}
-use lib.Dec.{leb, ltb, eqb}
-use Rattle.std.specs.declared.option.Option.{Option}
-use Rattle.std.specs.declared.option.Option.the-variants.{Some, None}
+use lib.Dec.{leb}
+use Rattle.std.specs.declared.option.Option.the-variants.{Some}
 use Rattle.std.proofs.shelf.Tests.{leb-true, leb-false, le-leb, lt-leb}
 use Rattle.std.proofs.shelf.Ways.{tells}
-use Rattle.measures.specs.declared.step.Step.{Step}
 use Rattle.measures.specs.declared.faults_first.FaultsFirst.{FaultsFirst}
 use Rattle.measures.specs.Bracketing.{Bracketing, one, both, count, evaluated}
-use Rattle.measures.specs.Laws.{Laws, Below, longest}
+use Rattle.measures.specs.Laws.{Laws, longest}
 use Rattle.measures.specs.Sums.{added}
 use Rattle.measures.specs.Values.{step-ms, no-faults, faults-first-step, faults-first-joined, faults-first-at-most}
 use Rattle.measures.proofs.Onward.{some-same, onward-some, onward-parts}

@@ -1,7 +1,6 @@
 -- The page of what was loaded is the page of the file.
 use mathlib.Core.Path.{_≡_, sym, ap, _∙_}
-use mathlib.Core.List.{List, map, _++_}
-use Prim.Native.Nat.{ℕ}
+use mathlib.Core.List.{map, _++_}
 use lib.ListN.{length}
 use Rattle.std.specs.Of.String.{string-bytes}
 use Rattle.std.specs.Of.Vec.{vec-items, vec-len}

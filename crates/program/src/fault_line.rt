@@ -41,7 +41,7 @@ fn lock_line(heap: Global, number: u32, lock: u32, line: u32) -> Result<String, 
 }
 
 // The one line on a file that is refused.
-pub fn fault_line(heap: Global, fault: LoadFault) -> Result<String, AllocError>
+pub(crate) fn fault_line(heap: Global, fault: LoadFault) -> Result<String, AllocError>
     ensures { λ r. ⌜ made r (λ t. fault-line fault ≡ Some (string-bytes t)) ⌝ }
 {
     match fault {

@@ -102,7 +102,7 @@ fn heading(
 }
 
 // The counts of the file, and its questions.
-pub fn page(heap: Global, loaded: &Loaded) -> Result<String, AllocError>
+pub(crate) fn page(heap: Global, loaded: &Loaded) -> Result<String, AllocError>
     ensures { λ r. ⌜ made r (λ t. string-bytes t ≡ loaded-page (now (loaded .entry))) ⌝ }
 {
     let mut text = heading(

@@ -8,7 +8,7 @@ use reader::load::load;
 use std::alloc::AllocError;
 use std::alloc::Global;
 
-pub fn report(heap: Global, bytes: &[u8]) -> Result<String, AllocError>
+pub(crate) fn report(heap: Global, bytes: &[u8]) -> Result<String, AllocError>
     ensures reported { λ r. ⌜ made r (λ t. Reported-as (now (bytes .entry)) (string-bytes t)) ⌝ }
 {
     match load(heap, bytes) {

@@ -1,17 +1,15 @@
 -- No two rows of a form have one text, and no text holds a line's end.
 use mathlib.Core.Path.{_≡_, refl, sym, ap, _∙_}
-use mathlib.Core.Bool.{true, false}
-use mathlib.Core.List.{List, [], _∷_, _++_}
-use Prim.Native.Nat.{ℕ, _+_, _^_, _≤_, _<_}
+use mathlib.Core.Bool.{true}
+use mathlib.Core.List.{List, _∷_, _++_}
+use Prim.Native.Nat.{ℕ, _+_, _^_, _<_}
 use native.Mathlib.Omega.{arith}
-use Rattle.std.specs.declared.option.Option.the-variants.{Some, None}
-use Rattle.std.specs.shelf.Lists.{All}
 use Rattle.std.specs.Written.{decimal}
 use Rattle.std.proofs.shelf.Elements.{all-append, all-weaker}
 use Rattle.reader.specs.declared.content.Letter.{Letter}
 use Rattle.reader.specs.declared.content.Letter.the-variants.{Dwell, FaultsFirst}
 use Rattle.reader.specs.Lines.{Free, Form}
-use Rattle.reader.specs.Rows.{Exit, Lock, Asked, name-byte, letter-byte, name-form, exit-form, lock-form, question-form}
+use Rattle.reader.specs.Rows.{name-byte, letter-byte, name-form, exit-form, lock-form, question-form}
 use Rattle.reader.specs.Sections.{count-form}
 use Rattle.reader.proofs.Words.{free-number, same-number, field-once}
 

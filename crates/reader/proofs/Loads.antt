@@ -1,7 +1,7 @@
 -- What is known of a content that is within the ranges.
-use mathlib.Core.Path.{_≡_, refl, sym, ap, subst, _∙_}
-use mathlib.Core.List.{List, [], _∷_, map}
-use Prim.Native.Nat.{ℕ, _+_, _≤_, _<_}
+use mathlib.Core.Path.{_≡_, ap, subst, _∙_}
+use mathlib.Core.List.{List, [], map}
+use Prim.Native.Nat.{ℕ, _+_, _≤_}
 use native.Mathlib.Omega.{arith}
 use lib.ListN.{length}
 use Rattle.std.specs.declared.option.Option.the-variants.{None}
@@ -12,16 +12,13 @@ use Rattle.std.specs.Of.Vec.{vec-items}
 use Rattle.std.specs.Results.{Cases}
 use Rattle.std.specs.Vec.{made, refused}
 use Rattle.std.proofs.shelf.Lists.{length-map}
-use Rattle.charts.specs.declared.lock.LockChart.{LockChart}
 use Rattle.charts.specs.declared.locks.Lock.{Lock}
 use Rattle.charts.specs.declared.table.TableChart.{TableChart}
 use Rattle.charts.specs.LockMeaning.{locks-of, lock-meaning}
-use Rattle.charts.specs.Meaning.{Meaning}
 use Rattle.charts.specs.Tables.{table-meaning, Answer-of-table}
 use Rattle.reader.specs.declared.content.Content.{Content}
 use Rattle.reader.specs.declared.content.ExitLine.{ExitLine}
 use Rattle.reader.specs.declared.content.LockLine.{LockLine}
-use Rattle.reader.specs.declared.fault.Cause.{Cause}
 use Rattle.reader.specs.declared.fault.DeclinedLock.{DeclinedLock}
 use Rattle.reader.specs.declared.fault.LoadFault.{LoadFault}
 use Rattle.reader.specs.declared.fault.LoadFault.the-variants as loading

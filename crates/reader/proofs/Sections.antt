@@ -1,21 +1,19 @@
 -- Sections as they are read.
-use mathlib.Core.Path.{_≡_, refl, sym, ap, subst, _∙_}
+use mathlib.Core.Path.{_≡_, refl, sym, ap, _∙_}
 use mathlib.Core.List.{List, [], _∷_, _++_, append-nil, append-assoc}
 use mathlib.Core.Logic.{_⊎_}
 use Prim.Native.Nat.{ℕ, _+_, _≤_, _<_}
 use native.Mathlib.Omega.{arith}
 use lib.ListN.{length}
 use Rattle.std.specs.declared.option.Option.the-variants.{Some, None}
-use Rattle.std.specs.Written.{decimal}
 use Rattle.std.proofs.shelf.Lists.{length-push}
 use Rattle.std.proofs.shelf.Ways.{tells}
-use Rattle.reader.specs.declared.fault.Cause.{Cause}
 use Rattle.reader.specs.declared.fault.Cause.the-variants.{OutOfRange}
 use Rattle.reader.specs.declared.fault.ReadFault.{ReadFault}
 use Rattle.reader.specs.declared.fault.ReadFault.the-variants.{Slip, NoMemory}
 use Rattle.reader.specs.Faults.{Refusing}
 use Rattle.reader.specs.Lines.{Cut, Form}
-use Rattle.reader.specs.Sections.{line, lines, Fine, count-form, LineRead, RowsRead, SectionRead, LineRefused, RowsRefused, SectionRefused, at-row, at-count, at-rows}
+use Rattle.reader.specs.Sections.{line, lines, Fine, count-form, LineRead, RowsRead, LineRefused, RowsRefused, SectionRefused, at-row, at-count, at-rows}
 
 pub line-is : (bytes text rest written : List ℕ) → Cut 10 bytes text rest → written ≡ text → bytes ≡ line written rest
 line-is bytes text rest written c e = c .1 ∙ ap (λ t. line t rest) (sym e)
@@ -39,9 +37,6 @@ fine-more F modes before [] x fine formed ok = (formed, ap (λ b. F .slip modes 
 fine-more F modes before (y ∷ ys) x fine formed ok =
     (fine .0, fine .1, fine-more F modes (before ++ y ∷ []) ys x (fine .2) formed (ap (λ b. F .slip modes b x) (append-assoc before (y ∷ []) ys) ∙ ok))
 
-pub rows-none : (F : Form) (modes : ℕ) (bytes : List ℕ) → RowsRead F modes 0 bytes [] bytes
-rows-none F modes bytes = (refl, tt, refl)
-
 pub rows-more : (F : Form) (modes n : ℕ) (bytes : List ℕ) (rows : List (F .Row)) (rest : List ℕ) (x : F .Row) (after : List ℕ) → RowsRead F modes n bytes rows rest → LineRead F modes rows rest x after → RowsRead F modes (n + 1) bytes (rows ++ x ∷ []) after
 rows-more F modes n bytes rows rest x after r l =
     (length-push rows x ∙ ap (λ k. k + 1) (r .0), fine-more F modes [] rows x (r .1) (l .1) (l .2), r .2 ∙ ap (lines F rows) (l .0) ∙ lines-more F rows x after)
@@ -51,14 +46,6 @@ rows-refused F modes n i first bytes rows rest (Slip at) r l h =
     let long = r .0 in
     (length rows, h .0 ∙ ap (λ k. first + k) (sym long), at-row rows rest _ (omega arith) (r .1) (r .2) (h .1))
 rows-refused F modes n i first bytes rows rest NoMemory r l h = tt
-
--- a section is its count and its rows
-pub section-read : (F : Form) (modes least most n : ℕ) (bytes rest : List ℕ) (rows : List (F .Row)) (after : List ℕ) → LineRead (count-form least most) 0 [] bytes n rest → RowsRead F modes n rest rows after → SectionRead F modes least most bytes rows after
-section-read F modes least most n bytes rest rows after c r =
-    let long = r .0 in
-    let low = at-least least most n (c .2) in
-    let high = at-most least most n (c .2) in
-    ((omega arith, omega arith, r .1), c .0 ∙ ap (λ k. line (decimal k) rest) (sym long) ∙ ap (line (decimal (length rows))) (r .2))
 
 pub count-refused : (F : Form) (modes least most first : ℕ) (bytes : List ℕ) (e : ReadFault) → Refusing e (λ c at. (at ≡ first) × LineRefused (count-form least most) 0 [] bytes c) → Refusing e (λ c at. (k : ℕ) × (at ≡ first + k) × SectionRefused F modes least most bytes c k)
 count-refused F modes least most first bytes (Slip at) h = (0, (let e = h .0 in omega arith), at-count _ (h .1))

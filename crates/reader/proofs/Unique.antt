@@ -2,7 +2,6 @@
 use mathlib.Core.Path.{_≡_, refl, sym, ap, subst, _∙_}
 use mathlib.Core.List.{List, [], _∷_, _++_, append-nil, append-assoc}
 use mathlib.Core.Logic.{_⊎_, inl, inr, ⊎-elim}
-use mathlib.Core.Bool.{true}
 use Prim.Native.Nat.{ℕ, _+_, _^_, _≤_, _<_}
 use native.Mathlib.Omega.{arith}
 use lib.ListN.{length}
@@ -11,8 +10,8 @@ use Rattle.std.specs.Written.{decimal}
 use Rattle.std.proofs.shelf.Ways.{tells}
 use Rattle.std.proofs.str.Laws.{order}
 use Rattle.reader.specs.declared.fault.Cause.{Cause}
-use Rattle.reader.specs.Lines.{Free, Cut, Form, Reads}
-use Rattle.reader.specs.Sections.{line, lines, section, Fine, Stands, count-form, LineRead, RowsRead, SectionRead, LineRefused, RowsRefused, SectionRefused, no-line, no-row, slips, at-row, at-count, at-rows}
+use Rattle.reader.specs.Lines.{Free, Form}
+use Rattle.reader.specs.Sections.{line, lines, section, Fine, count-form, LineRead, SectionRead, LineRefused, RowsRefused, SectionRefused, no-line, no-row, slips, at-row, at-count, at-rows}
 use Rattle.reader.specs.File.{HereOrLater}
 use Rattle.reader.proofs.Cuts.{cut-once, not-free}
 use Rattle.reader.proofs.Forms.{Lawful, count-lawful}

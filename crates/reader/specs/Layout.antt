@@ -3,7 +3,6 @@ use mathlib.Core.Path.{_≡_}
 use mathlib.Core.List.{List, [], _∷_, map}
 use Prim.Native.Nat.{ℕ, zero, suc, _+_}
 use lib.Dec.{ltb}
-use lib.ListN.{length}
 use Rattle.std.specs.declared.option.Option.the-variants.{Some, None}
 use Rattle.std.specs.Iters.{counting}
 use Rattle.std.specs.Of.Vec.{vec-items}
@@ -15,7 +14,7 @@ use Rattle.charts.specs.declared.lead.Lead.{Lead}
 use Rattle.charts.specs.declared.lock.LockChart.{LockChart}
 use Rattle.charts.specs.declared.locks.Lock.{Lock}
 use Rattle.charts.specs.declared.table.TableChart.{TableChart}
-use Rattle.charts.specs.LockMeaning.{lock-on, lock-fault, lock-meaning, chart-meaning}
+use Rattle.charts.specs.LockMeaning.{lock-on, lock-fault, chart-meaning}
 use Rattle.charts.specs.Locks.{with-lock}
 use Rattle.charts.specs.Meaning.{Meaning}
 use Rattle.charts.specs.Tables.{table-meaning}

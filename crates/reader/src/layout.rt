@@ -40,7 +40,7 @@ fn skip_below(exits: &[ExitLine], start: usize, mode: u32) -> usize
 }
 
 // Where the exits of each mode begin, and behind them where those of the last mode end.
-pub fn offsets(heap: Global, exits: &[ExitLine], modes: u32) -> Result<Vec<u32>, AllocError>
+pub(crate) fn offsets(heap: Global, exits: &[ExitLine], modes: u32) -> Result<Vec<u32>, AllocError>
     requires few { ⌜ length (now exits) ≤ 512 ⌝ }
     requires small { ⌜ modes ≤ 64 ⌝ }
     requires rising { ⌜ Fine exit-form modes [] (map exit-told (now exits)) ⌝ }
@@ -56,7 +56,7 @@ pub fn offsets(heap: Global, exits: &[ExitLine], modes: u32) -> Result<Vec<u32>,
 }
 
 // Where each exit line leads.
-pub fn leads(heap: Global, exits: &[ExitLine]) -> Result<Vec<Lead>, AllocError>
+pub(crate) fn leads(heap: Global, exits: &[ExitLine]) -> Result<Vec<Lead>, AllocError>
     ensures { λ r. ⌜ made r (λ v. vec-items v ≡ map lead-of (now (exits .entry))) ⌝ }
 {
     let mut leads = Vec::new(heap);
@@ -82,7 +82,7 @@ fn line_of(fault: ChartFault, modes: u32) -> u32
 }
 
 // The chart of a table, or its fault with its line in a file of so many modes.
-pub fn table_of(
+pub(crate) fn table_of(
     offsets: Vec<u32>,
     entries: Vec<Lead>,
     modes: u32,
@@ -101,7 +101,7 @@ pub fn table_of(
 }
 
 // The locks of the lines in turn, the first of which stands on the line `first`.
-pub fn set_locks<C: Chart>(
+pub(crate) fn set_locks<C: Chart>(
     chart: &mut LockChart<C>,
     locks: &[LockLine],
     first: u32,

@@ -27,7 +27,7 @@ const MOST_FAULTS: u32 = 255;
 const MOST_COURSES: u32 = 99;
 
 // A row of a section.
-pub trait Row: Drop {
+pub(crate) trait Row: Drop {
     // What the section's lines hold.
     ghost form: { Form };
 

@@ -17,7 +17,7 @@ use crate::text::number;
 use std::alloc::Global;
 
 // The refusal of a line.
-pub fn refused(fault: Cause, line: u32) -> ReadFault
+pub(crate) fn refused(fault: Cause, line: u32) -> ReadFault
     ensures { λ r. ⌜ r ≡ ReadFault.Slip (record { fault = fault; line = line }) ⌝ }
 {
     ReadFault::Slip(At { fault, line })
@@ -95,7 +95,7 @@ fn read_rows<'a, T: Row>(
 
 // A section that was read: its rows and how many they are, what follows it, and the line on which that begins.
 #[derive(Drop)]
-pub struct Section<'a, T> {
+pub(crate) struct Section<'a, T> {
     pub rows: Vec<T>,
     pub count: u32,
     pub rest: &'a [u8],
@@ -103,7 +103,7 @@ pub struct Section<'a, T> {
 }
 
 // The section of `least` to `most` rows whose count stands on the line `first`.
-pub fn read_section<'a, T: Row>(
+pub(crate) fn read_section<'a, T: Row>(
     heap: Global,
     bytes: &'a [u8],
     modes: u32,

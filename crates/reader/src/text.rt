@@ -10,7 +10,7 @@ ghost use Rattle.std.specs.Text.{digitValue};
 ghost use Rattle.reader.specs.Lines.{Free, Cut, Reads, number-form, NoField, Field};
 
 // What stands before the first `mark`, and what stands behind it; nothing where there is no mark.
-pub fn cut(bytes: &[u8], mark: u8) -> Option<(&[u8], &[u8])>
+pub(crate) fn cut(bytes: &[u8], mark: u8) -> Option<(&[u8], &[u8])>
     ensures { λ r. ⌜ BySome r (Free mark (now (bytes .entry))) (λ p. Cut mark (now (bytes .entry)) (now (p .0)) (now (p .1))) ⌝ }
 {
     for (i, b) in bytes.iter().enumerate() {
@@ -50,7 +50,7 @@ fn appended(number: u32, digit: u32) -> Option<u32>
 }
 
 // A number in base ten without leading zeros, up to 4,294,967,295.
-pub fn number(word: &[u8]) -> Option<u32>
+pub(crate) fn number(word: &[u8]) -> Option<u32>
     ensures { λ r. ⌜ Reads number-form (now (word .entry)) r ⌝ }
 {
     let first = *word.first()?;
@@ -61,7 +61,7 @@ pub fn number(word: &[u8]) -> Option<u32>
 }
 
 // A number with one space behind it, and what follows.
-pub fn field(line: &[u8]) -> Option<(u32, &[u8])>
+pub(crate) fn field(line: &[u8]) -> Option<(u32, &[u8])>
     ensures { λ r. ⌜ BySome r (NoField (now (line .entry))) (λ p. Field (now (line .entry)) (p .0) (now (p .1))) ⌝ }
 {
     let (word, rest) = cut(line, b' ')?;

@@ -17,7 +17,7 @@ impl Lock {
 }
 
 impl Locks {
-    pub fn none() -> Self
+    pub(crate) fn none() -> Self
         ensures { λ r. ⌜ held r ≡ [] ⌝ }
     {
         Locks {
@@ -27,7 +27,7 @@ impl Locks {
     }
 
     // Whether one of the locks is on an exit.
-    pub fn hold(&self, mode: u32, exit: u32) -> bool
+    pub(crate) fn hold(&self, mode: u32, exit: u32) -> bool
         ensures { λ r. ⌜ r ≡ locked (held (now (self .entry))) mode exit ⌝ }
     {
         let count = self.count;
@@ -35,7 +35,7 @@ impl Locks {
     }
 
     // Sets a lock behind the others, unless it is held already.
-    pub fn set(&mut self, lock: Lock) -> Result<(), LockFault>
+    pub(crate) fn set(&mut self, lock: Lock) -> Result<(), LockFault>
         ensures answer { λ r. ⌜ errPart r ≡ set-fault (held (now (self .entry))) lock ⌝ }
         ensures locks { λ r. ⌜ Cases r (λ _. held (now (self .exit)) ≡ with-lock (held (now (self .entry))) lock) (λ _. held (now (self .exit)) ≡ held (now (self .entry))) ⌝ }
     {

@@ -5,7 +5,6 @@ use lib.Dec.{ltb}
 use Rattle.std.specs.Iters.{counting}
 use Rattle.std.specs.shelf.Lists.{leading}
 use native.Mathlib.Omega.{arith}
-use borrow.Author.Needs.{needs}
 use Rattle.reader.proofs.Layouts.{leading-zero, offsets-more, offsets-fine}
 use Rattle.reader.proofs.layout.offsets.Needs as need
 

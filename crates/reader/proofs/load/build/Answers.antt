@@ -1,11 +1,10 @@
 use mathlib.Core.Path.{_≡_, refl, sym, ap, subst, _∙_}
 use native.Mathlib.Omega.{arith}
-use Prim.Native.Nat.{_≤_}
 use lib.ListN.{length}
 use mathlib.Core.List.{[], map}
 use Rattle.std.proofs.shelf.Results.{err-from-errBy}
 use Rattle.charts.specs.LockMeaning.{locks-of}
-use Rattle.reader.specs.Loading.{mode-count, exit-count, lock-count}
+use Rattle.reader.specs.Loading.{mode-count}
 use Rattle.reader.specs.Rows.{exit-form, exit-told}
 use Rattle.reader.specs.Sections.{Fine}
 use Rattle.reader.proofs.Loads.{Laid, bounds, bad-lock, good-load}

@@ -1,4 +1,3 @@
-use native.Mathlib.Omega.{arith}
 use borrow.Author.Needs.{needs}
 use Rattle.reader.proofs.Words.{letter-found, no-letter-short, no-letter-space, no-letter-byte}
 use Rattle.reader.proofs.row.letter_field.Needs as need

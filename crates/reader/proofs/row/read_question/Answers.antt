@@ -1,5 +1,3 @@
-use mathlib.Core.Path.{_≡_, _∙_, sym}
-use mathlib.Core.List.{List}
 use Rattle.reader.proofs.Words.{field-once, letter-once}
 use Rattle.reader.proofs.row.read_question.Needs as need
 

@@ -1,4 +1,4 @@
-use mathlib.Core.Path.{refl, sym, _∙_}
+use mathlib.Core.Path.{refl, sym}
 use Rattle.reader.specs.Sections.{no-line, no-row, slips}
 use Rattle.reader.proofs.Sections.{line-is}
 use Rattle.reader.proofs.section.read_row.Needs as need

@@ -1,7 +1,7 @@
 use mathlib.Core.Path.{_≡_, ap, sym, subst, _∙_}
 use native.Mathlib.Omega.{arith}
-use lib.ListN.{getD, drop}
-use Prim.Native.Nat.{ℕ, _+_, _*_, _^_, _<_}
+use lib.ListN.{drop}
+use Prim.Native.Nat.{_+_, _*_}
 use Rattle.std.specs.Reads.{Digits, value, valueAfter}
 use Rattle.std.proofs.shelf.Digits.{digits-more}
 use Rattle.std.proofs.shelf.Lists.{at-drop-all, take-all}
