@@ -1,6 +1,6 @@
 -- Sorted lists: how a list is shown to hold the first courses. Each stands before the next, and the last before every other course.
 use Rattle.std.proofs.Common.{◌≡◌, ℕ, zero, suc, ◌<◌, true, ◌⊎◌, List, [], ◌∷◌, ◌++◌, length, get_or, Some, None, Option, sym, refl, ap, ◌∙◌, subst, inl, inr, ⊎_elim, arith}
-use Rattle.std.specs.List.{AllByRecursion as All}
+use Rattle.std.specs.List.{AllByRecursion}
 use Rattle.std.proofs.ByRecursion.{All-get_or}
 use Rattle.measures.specs.Laws.{Below}
 use Rattle.measures.specs.Rows.{row_from, row_value}
@@ -28,7 +28,7 @@ Placed m x s a bs c = Listed c (a ∷ bs) ⊎ Before m x s (last_of a bs) c
 
 -- the courses from s to t are those of the list, in order, and others that come after the last of it
 pub record Sorted {V : Type 0} (m : Scale V) (x : Exits) (s t : ℕ) (a : Course) (bs : List Course) : Type 0 where
-  pub leads : All (Leads x s t) (a ∷ bs)
+  pub leads : AllByRecursion (Leads x s t) (a ∷ bs)
   pub rising : Rising m x s a bs
   pub rest : (c : Course) → Leads x s t c → Placed m x s a bs c
 
@@ -58,7 +58,7 @@ module _ {V : Type 0} {m : Scale V} (laws : LawfulScale m) where
             (at_most_cases laws u z (laws.carries u w z le (row_grows (steps_along x q r) w z onwards)))
 
     -- what comes after the last of a rising list comes after all of it
-    after_all : (a : Course) (bs : List Course) (c : Course) → Rising m x s a bs → Before m x s (last_of a bs) c → All (λ d. Before m x s d c) (a ∷ bs)
+    after_all : (a : Course) (bs : List Course) (c : Course) → Rising m x s a bs → Before m x s (last_of a bs) c → AllByRecursion (λ d. Before m x s d c) (a ∷ bs)
     after_all a [] c rising h = (h, tt)
     after_all a (b ∷ bs) c rising h =
         let k = after_all b bs c rising.1 h in

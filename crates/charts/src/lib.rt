@@ -1,4 +1,6 @@
 // Charts: the modes of a pitch controller, and where the exits of each lead.
+#![tactic(auto)]
+
 pub mod blade;
 mod blades;
 pub mod chart;

@@ -1,6 +1,6 @@
 -- Every course has one list of its offers.
 use Rattle.std.proofs.Common.{◌≡◌, ℕ, zero, suc, ◌+◌, ◌<◌, ◌≤◌, ◌⊎◌, List, [], ◌∷◌, ◌++◌, length, get_or, take, drop, Some, None, Option, sym, refl, ap, ◌∙◌, subst, inl, inr, ⊎_elim, arith, take-append-drop, length-take-le}
-use Rattle.std.specs.List.{ContainsAt as Has, AllByRecursion as All}
+use Rattle.std.specs.List.{ContainsAt as Has, AllByRecursion}
 use Rattle.std.proofs.ByRecursion.{All-get_or, All-push, all-has, has_append_left, has_push}
 use Rattle.std.proofs.lemmas.List.{get_or_push, get_or_append_left, length_push}
 use Rattle.std.proofs.lemmas.Bool.{cases_lt}
@@ -69,7 +69,7 @@ same_rising (o ∷ os) (u ∷ us) uo uu to back =
     let rest : os ≡ us = same_rising os us (rising_rest o os uo) (rising_rest u us uu) (rest_holds o u os us uo first to) (rest_holds u o us os uu (sym first) back) in
     λ i. first i ∷ rest i
 
-rising_push : (os : List Placed) (u : Placed) → Rising os → All (λ o. Earlier o u) os → Rising (os ++ u ∷ [])
+rising_push : (os : List Placed) (u : Placed) → Rising os → AllByRecursion (λ o. Earlier o u) os → Rising (os ++ u ∷ [])
 rising_push os u up below i k d h l =
     let size = length_push os u in
     let left = get_or_append_left os (u ∷ []) d i (omega arith) in
@@ -88,9 +88,9 @@ one_list {V} {m} {x} {t} {s} a os us f g = same_rising os us f.in_order g.in_ord
 
 -- the list holds the offers of the course a below position j, and those at position j below exit f
 record Upto {V : Type 0} (m : Scale V) (x : Exits) (t s : ℕ) (a : Course) (j f : ℕ) (os : List Placed) : Type 0 where
-  offers : All (λ o. Offer m x t s a o.0 o.1 o.2) os
+  offers : AllByRecursion (λ o. Offer m x t s a o.0 o.1 o.2) os
   in_order : Rising os
-  below : (c : Course) → All (λ o. Earlier o (j, f, c)) os
+  below : (c : Course) → AllByRecursion (λ o. Earlier o (j, f, c)) os
   every : (i e : ℕ) (c : Course) → Offer m x t s a i e c → Earlier (i, e, c) (j, f, c) → Has os (i, e, c)
 
 module _ {V : Type 0} {m : Scale V} (laws : LawfulScale m) (x : Exits) (n : ℕ) (bound : Bounded x n) (t s : ℕ) where
@@ -182,7 +182,7 @@ module _ {V : Type 0} {m : Scale V} (laws : LawfulScale m) (x : Exits) (n : ℕ)
         },
       ))
     where
-      later : (vs : List Placed) (c : Course) → All (λ u. Earlier u (j, f, c)) vs → All (λ u. Earlier u (j, suc f, c)) vs
+      later : (vs : List Placed) (c : Course) → AllByRecursion (λ u. Earlier u (j, f, c)) vs → AllByRecursion (λ u. Earlier u (j, suc f, c)) vs
       later [] c k = tt
       later (v ∷ vs) c k = (⊎_elim (λ (l : v.0 < j). inl l) (λ (l : (v.0 ≡ j) × (v.1 < f)). inr (l.0, omega (arith, l.1))) k.0, later vs c k.1)
 
@@ -213,7 +213,7 @@ module _ {V : Type 0} {m : Scale V} (laws : LawfulScale m) (x : Exits) (n : ℕ)
         early);
   }
     where
-      later : (vs : List Placed) (c : Course) → All (λ u. Earlier u (j, 64, c)) vs → All (λ u. Earlier u (suc j, 0, c)) vs
+      later : (vs : List Placed) (c : Course) → AllByRecursion (λ u. Earlier u (j, 64, c)) vs → AllByRecursion (λ u. Earlier u (suc j, 0, c)) vs
       later [] c k = tt
       later (v ∷ vs) c k = (⊎_elim (λ (l : v.0 < j). inl (omega arith)) (λ (l : (v.0 ≡ j) × (v.1 < 64)). inl (omega (arith, l.0))) k.0, later vs c k.1)
 

@@ -1,6 +1,6 @@
 -- What a course is: where it leads, its value, its rank, the least courses, detours, chains, offers, and lists of courses.
 use Rattle.std.specs.Prelude.{◌≡◌, ℕ, ◌+◌, ◌<◌, ◌≤◌, ◌⊎◌, List, [], ◌∷◌, ◌++◌, length, take, Some, None, Option, ◌≢◌, slice_index_or}
-use Rattle.std.specs.List.{ContainsAt as Has, AllByRecursion as All}
+use Rattle.std.specs.List.{ContainsAt as Has, AllByRecursion}
 use Rattle.measures.specs.Laws.{Below}
 use Rattle.measures.specs.Onward.{onward}
 use Rattle.measures.specs.Rows.{row_value}
@@ -133,7 +133,7 @@ Earlier o u = (o.0 < u.0) ⊎ ((o.0 ≡ u.0) × (o.1 < u.1))
 
 -- the list holds all offers of the course a, each once, and each earlier than those behind it
 pub record OffersInOrder {V : Type 0} (m : Scale V) (x : Exits) (t s : ℕ) (a : Course) (os : List (ℕ × ℕ × Course)) : Type 0 where
-  pub offers : All (λ o. Offer m x t s a o.0 o.1 o.2) os
+  pub offers : AllByRecursion (λ o. Offer m x t s a o.0 o.1 o.2) os
   pub in_order : (i k : ℕ) (d : ℕ × ℕ × Course) → i < k → k < length os → Earlier (slice_index_or os i d) (slice_index_or os k d)
   pub every : (i e : ℕ) (c : Course) → Offer m x t s a i e c → Has os (i, e, c)
 

@@ -8,11 +8,11 @@ use measures::measure::Measure;
 
 // Every course has one chain of detours, and every chain belongs to one course.
 pub fn chains_are_courses<M: Measure>()
-    ensures { (c : Meaning) → Lawful c → (s t : ℕ) → ChainsAreCourses (scale nothing step_value joined at_most) c.exit s t }
+    ensures { (c : Meaning) → Lawful c → (s t : ℕ) → ChainsAreCourses (scale M.nothing M.step_value M.joined M.at_most) c.exit s t }
 {}
 
 // The offers of a course are the courses with one detour more, and have one list; every course but the least is offered
 // once, and stands after the course that offers it.
 pub fn offers_are_children<M: Measure>()
-    ensures { (c : Meaning) → Lawful c → (s t : ℕ) → OffersAreChildren (scale nothing step_value joined at_most) c.exit s t }
+    ensures { (c : Meaning) → Lawful c → (s t : ℕ) → OffersAreChildren (scale M.nothing M.step_value M.joined M.at_most) c.exit s t }
 {}

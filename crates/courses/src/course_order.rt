@@ -6,5 +6,5 @@ use measures::measure::Measure;
 
 // The courses from a mode stand in a strict and total order, which a common front keeps.
 pub fn order_is_total<M: Measure>()
-    ensures { OrderStands (scale nothing step_value joined at_most) }
+    ensures { OrderStands (scale M.nothing M.step_value M.joined M.at_most) }
 {}

@@ -8,5 +8,5 @@ use measures::measure::Measure;
 // Every walk has a direct one that is neither longer nor greater; so every mode of a chart has a short least course or is
 // dead, and its exits settle which.
 pub fn least_courses_exist<M: Measure>()
-    ensures { (c : Meaning) → Lawful c → LeastCourses (scale nothing step_value joined at_most) c.exit c.modes }
+    ensures { (c : Meaning) → Lawful c → LeastCourses (scale M.nothing M.step_value M.joined M.at_most) c.exit c.modes }
 {}

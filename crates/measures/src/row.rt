@@ -7,20 +7,20 @@ use crate::step::Step;
 
 // The join of the values of the steps from the first on, nothing if there is none; `None` where a join does not exist.
 pub fn row_value<M: Measure>(steps: &[Step]) -> Option<M>
-    ensures value { result ≡ row_value nothing step_value joined steps.now }
-    ensures rows_exist { RowsExist nothing step_value joined at_most }
-    ensures rows_join { RowsJoin nothing step_value joined at_most }
-    ensures one_value { OneValue nothing step_value joined at_most }
-    ensures fronts_keep { FrontsKeep nothing step_value joined at_most }
-    ensures ends_keep { EndsKeep nothing step_value joined at_most }
-    ensures nothing_least { NothingLeast nothing step_value joined at_most }
-    ensures joins_grow { JoinsGrow nothing step_value joined at_most }
+    ensures value { result ≡ row_value M.nothing M.step_value M.joined steps.now }
+    ensures rows_exist { RowsExist M.nothing M.step_value M.joined M.at_most }
+    ensures rows_join { RowsJoin M.nothing M.step_value M.joined M.at_most }
+    ensures one_value { OneValue M.nothing M.step_value M.joined M.at_most }
+    ensures fronts_keep { FrontsKeep M.nothing M.step_value M.joined M.at_most }
+    ensures ends_keep { EndsKeep M.nothing M.step_value M.joined M.at_most }
+    ensures nothing_least { NothingLeast M.nothing M.step_value M.joined M.at_most }
+    ensures joins_grow { JoinsGrow M.nothing M.step_value M.joined M.at_most }
 {
     joined_steps(steps)
 }
 
 fn joined_steps<M: Measure>(steps: &[Step]) -> Option<M>
-    ensures { result ≡ row_value nothing step_value joined steps.now }
+    ensures { result ≡ row_value M.nothing M.step_value M.joined steps.now }
 {
     let mut value = M::nothing();
     for step in steps {

@@ -1,4 +1,6 @@
 // Reads a chart file from standard input and writes the report on it to standard output.
+#![tactic(auto)]
+
 mod fault_line;
 mod page;
 mod report;

@@ -1,11 +1,11 @@
 -- Lines and words of a file, and the numbers on them.
 use Rattle.std.specs.Prelude.{◌≡◌, ℕ, ◌^◌, ◌<◌, List, ◌∷◌, ◌++◌, Some, None, decimal, Option, ◌≢◌}
-use Rattle.std.specs.List.{AllByRecursion as All}
+use Rattle.std.specs.List.{AllByRecursion}
 use Rattle.reader.specs.declared.fault.Cause.{Cause}
 
 -- the mark stands nowhere in the text
 abbrev pub Free : ℕ → List ℕ → Type 0
-Free mark text = All (λ b. b ≢ mark) text
+Free mark text = AllByRecursion (λ b. b ≢ mark) text
 
 -- front is what stands before the first mark of the text, and rest what stands behind it
 abbrev pub Cut : ℕ → List ℕ → List ℕ → List ℕ → Type 0

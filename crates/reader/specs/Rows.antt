@@ -1,6 +1,6 @@
 -- The rows of the four sections: what a line of each holds, and how it is written.
 use Rattle.std.specs.Prelude.{◌≡◌, ℕ, ◌^◌, ◌<◌, ◌≤◌, Bool, true, cond, ◌&&◌, ◌||◌, List, [], ◌∷◌, ◌++◌, length, Some, None, decimal, Option, ◌==◌, nat_le, nat_lt}
-use Rattle.std.specs.List.{AllByRecursion as All}
+use Rattle.std.specs.List.{AllByRecursion}
 use Rattle.reader.specs.declared.content.ExitLine.{ExitLine}
 use Rattle.reader.specs.declared.content.LockLine.{LockLine}
 use Rattle.reader.specs.declared.content.Question.{Question}
@@ -16,7 +16,7 @@ name_byte b = (nat_le 97 b && nat_le b 122) || ((nat_le 48 b && nat_le b 57) || 
 
 -- a name: 1 to 16 such bytes
 abbrev pub Name : List ℕ → Type 0
-Name name = (1 ≤ length name) × (length name ≤ 16) × All (λ b. name_byte b ≡ true) name
+Name name = (1 ≤ length name) × (length name ≤ 16) × AllByRecursion (λ b. name_byte b ≡ true) name
 
 -- mode lines: a name each
 abbrev pub name_form : Form

@@ -1,4 +1,6 @@
 // The reader: from a chart file's bytes to what the file says, or to the first slip in it.
+#![tactic(auto)]
+
 pub mod content;
 pub mod fault;
 pub mod file;

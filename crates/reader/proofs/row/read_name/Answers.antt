@@ -1,5 +1,5 @@
 use Rattle.std.proofs.Common.{◌≡◌, true, [], ◌∷◌, get_or, sym, ap, ◌∙◌, subst, rules}
-use Rattle.std.specs.List.{AllByRecursion as All}
+use Rattle.std.specs.List.{AllByRecursion}
 use Rattle.std.proofs.ByRecursion.{All-more}
 use Rattle.std.proofs.lemmas.List.{take_all}
 use Rattle.reader.specs.Rows.{Name, name_byte}
@@ -21,4 +21,4 @@ loop-b-preserved c =
 pub returns : goal.returns
 returns c =
     let all = c.loop-b.invariant.0 ∙ take_all _ _ c.loop-b-test.false in
-    (subst Name (sym all) (search rules, search rules, subst (All _) (take_all _ _ c.loop-b-test.false) c.loop-b.invariant.1), all)
+    (subst Name (sym all) (search rules, search rules, subst (AllByRecursion _) (take_all _ _ c.loop-b-test.false) c.loop-b.invariant.1), all)
