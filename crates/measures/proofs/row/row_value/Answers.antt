@@ -5,7 +5,7 @@ pub returns : goal.returns
 returns g c =
     let laws = g.met.M.Measure.lawful in
     record {
-      value = c.joined-steps.ensures;
+      value = c.joined_steps.ensures;
       rows_exist = rows.rows_exist laws;
       rows_join = rows.rows_join laws;
       one_value = rows.one_value laws;

@@ -8,6 +8,6 @@ returns g c =
     record {
       answer = search rules;
       locks = search rules;
-      same-below = search rules;
+      same_below = search rules;
       exits = lock_exits (g.C.Chart.means c.args.self.now.below) (locks_of c.args.self.now) _ c.args.mode c.args.exit c.set.result c.set.ensures.locks;
     }
