@@ -4,11 +4,11 @@ use Rattle.reader.proofs.file.read_content.Goals as goal
 pub returns : goal.returns
 returns c =
     let bytes = c.args.bytes.now in
-    let r = c.read-sections.result in
-    let read = c.read-sections.ensures in
+    let r = c.read_sections.result in
+    let read = c.read_sections.ensures in
     record {
       text = answer_text bytes r read;
-      ranges = answer_ranges bytes r c.if-bytes-gt-MOST-BYTES.false read;
-      refusal = answer_refusal bytes r c.if-bytes-gt-MOST-BYTES.false read;
+      ranges = answer_ranges bytes r c.if-bytes-gt-MOST_BYTES.false read;
+      refusal = answer_refusal bytes r c.if-bytes-gt-MOST_BYTES.false read;
       exactly = answer_exactly bytes r read;
     }

@@ -8,8 +8,8 @@ loop-mode-init c = (omega arith, sym (leading_zero c.args.exits.now), c.new-offs
 
 pub loop-mode-preserved : goal.loop-mode-preserved
 loop-mode-preserved c =
-    let r = offsets_more c.loop-mode.mode c.loop-mode.at c.skip-below-at.result c.args.exits.now _ _ c.loop-mode.invariant.1 c.skip-below-at.ensures.value c.loop-mode.invariant.2 c.in-ok-push.ensures.items in
-    (c.skip-below-at.ensures.within, r.0, r.1)
+    let r = offsets_more c.loop-mode.mode c.loop-mode.at c.skip_below-at.result c.args.exits.now _ _ c.loop-mode.invariant.1 c.skip_below-at.ensures.value c.loop-mode.invariant.2 c.in_ok-push.ensures.items in
+    (c.skip_below-at.ensures.within, r.0, r.1)
 
 pub returns : goal.returns
 returns c =

@@ -6,13 +6,13 @@ use Rattle.reader.specs.Rows.{Name, name_byte}
 use Rattle.reader.proofs.Words.{not_name, name_more, name_byte_ascii}
 use Rattle.reader.proofs.row.read_name.Goals as goal
 
-pub returns-then-not-is-name-char : goal.returns-then-not-is-name-char
-returns-then-not-is-name-char c =
+pub returns-then-not-is_name_char : goal.returns-then-not-is_name_char
+returns-then-not-is_name_char c =
     λ x name e. not_name _ c.loop-b.b-index c.loop-b-test.true (search rules) (subst Name e name)
 
 pub loop-b-preserved : goal.loop-b-preserved
 loop-b-preserved c =
-    let pushed = c.in-ok-push.ensures in
+    let pushed = c.in_ok-push.ensures in
     let same : c.from-c.result ≡ get_or c.args.line.now c.loop-b.b-index 0 = search rules in
     let good : name_byte c.from-c.result ≡ true = search rules in
     let one = pushed.ascii (name_byte_ascii _ good) ∙ ap (λ b. b ∷ []) same in

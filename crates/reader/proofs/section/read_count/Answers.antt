@@ -3,13 +3,13 @@ use Rattle.reader.specs.Sections.{no_line, no_row, slips}
 use Rattle.reader.proofs.Sections.{line_is, out_of_range}
 use Rattle.reader.proofs.section.read_count.Goals as goal
 
-pub returns-in-default : goal.returns-in-default
-returns-in-default c = rw c.refused.ensures (refl, no_line c.in-default.ensures)
+pub returns-in_default : goal.returns-in_default
+returns-in_default c = rw c.refused.ensures (refl, no_line c.in_default.ensures)
 
-pub returns-in-default-number : goal.returns-in-default-number
-returns-in-default-number c =
-    rw c.refused-in-default-number.ensures
-    (refl, no_row c.in-Some.text.now c.in-Some.rest.now c.in-Some.ensures c.in-default-number.ensures)
+pub returns-in_default-number : goal.returns-in_default-number
+returns-in_default-number c =
+    rw c.refused-in_default-number.ensures
+    (refl, no_row c.in-Some.text.now c.in-Some.rest.now c.in-Some.ensures c.in_default-number.ensures)
 
 pub returns-then-count-least : goal.returns-then-count-least
 returns-then-count-least c =
