@@ -6,7 +6,7 @@ use Rattle.program.proofs.page.name_of.Goals as goal
 pub returns-in-Some : goal.returns-in-Some
 returns-in-Some c =
     let found = c.in-Some.ensures.lookup in
-    ap Some c.as-str.ensures.value ∙ sym (nth_map string_bytes c.args.names.now c.args.mode c.in-Some.name.now (ltb-true _ _ (sym found.0)) found.1)
+    ap Some c.as_str.ensures.value ∙ sym (nth_map string_bytes c.args.names.now c.args.mode c.in-Some.name.now (ltb-true _ _ (sym found.0)) found.1)
 
 pub returns-in-None : goal.returns-in-None
 returns-in-None c =

@@ -14,10 +14,10 @@ loop-question-preserved c =
     -- what a place past the end would hold
     let none : Question = record { start = 0; watched = 0; letter = Dwell; k = 0 } in
     let q = get_or c.args.questions.now l.question-index none in
-    let line : string_bytes c.in-ok-line.line ≡ question_line names l.question-index (question_told q) =
-    c.in-ok-line.ensures ∙ ap (λ n. question_line names n (question_told q)) l.invariant.0 in
-    let more = lines_more names c.args.questions.now l.question-index none (string_bytes l.lines) (string_bytes c.in-ok-line.line) c.loop-question-test.true line in
-    let pushed = c.in-ok-push-str.ensures.bytes ∙ ap (λ b. string_bytes l.lines ++ b) c.as-str.ensures.value in
+    let line : string_bytes c.in_ok-line.line ≡ question_line names l.question-index (question_told q) =
+    c.in_ok-line.ensures ∙ ap (λ n. question_line names n (question_told q)) l.invariant.0 in
+    let more = lines_more names c.args.questions.now l.question-index none (string_bytes l.lines) (string_bytes c.in_ok-line.line) c.loop-question-test.true line in
+    let pushed = c.in_ok-push_str.ensures.bytes ∙ ap (λ b. string_bytes l.lines ++ b) c.as_str.ensures.value in
     (omega (arith, l.invariant.0), ap (λ b. b ++ question_lines names (l.question-index + 1) (map question_told (drop (l.question-index + 1) c.args.questions.now))) pushed ∙ more ∙ l.invariant.1)
 
 pub returns : goal.returns
