@@ -1,5 +1,5 @@
 -- A common front keeps the order of two courses.
-use Rattle.std.proofs.Common.{◌≡◌, ℕ, ◌+◌, ◌<◌, ◌≤◌, ◌⊎◌, [], ◌∷◌, ◌++◌, length, Some, sym, refl, ap, ◌∙◌, subst, inl, inr, ⊎_elim, arith, length-append}
+use Rattle.std.proofs.Common.{◌≡◌, ℕ, ◌+◌, ◌<◌, ◌≤◌, [], ◌∷◌, ◌++◌, length, Some, sym, refl, ap, ◌∙◌, subst, inl, inr, ⊎_elim, arith, length-append}
 use Rattle.measures.specs.Laws.{Below, longest}
 use Rattle.measures.specs.Scale.{Scale, LawfulScale}
 use Rattle.measures.specs.OnwardLemmas.{some_same}

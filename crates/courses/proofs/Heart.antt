@@ -5,7 +5,6 @@ use Rattle.std.proofs.lemmas.Bool.{cases_lt}
 use Rattle.measures.specs.Laws.{longest}
 use Rattle.measures.specs.Scale.{Scale, LawfulScale}
 use Rattle.measures.specs.OnwardLemmas.{some_same}
-use Rattle.charts.specs.declared.lead.Lead.{Lead}
 use Rattle.courses.specs.Courses.{Exits, Course, Leads, Before, Least, Offer, Listed, FirstCourses, Waiting}
 use Rattle.courses.proofs.Bounds.{Bounded}
 use Rattle.courses.proofs.LeastCourses.{live_least, least_one}

@@ -2,7 +2,6 @@
 use Rattle.std.proofs.Common.{◌≡◌, ℕ, ◌+◌, ◌<◌, ◌⊎◌, [], ◌∷◌, length, Some, None, Option, sym, refl, ap, ◌∙◌, subst, inl, inr, ⊎_elim, arith}
 use Rattle.std.proofs.lemmas.Bool.{cases_eq}
 use Rattle.measures.specs.Laws.{Below, longest}
-use Rattle.measures.specs.Onward.{onward}
 use Rattle.measures.specs.Rows.{row_value}
 use Rattle.measures.specs.Scale.{Scale, LawfulScale}
 use Rattle.measures.specs.OnwardLemmas.{some_same, onward_some}

@@ -1,5 +1,5 @@
 -- No two rows of a form have one text, and no text holds a line's end.
-use Rattle.std.proofs.Common.{◌≡◌, ℕ, ◌+◌, ◌^◌, ◌<◌, true, List, ◌∷◌, ◌++◌, decimal, sym, refl, ap, ◌∙◌, arith}
+use Rattle.std.proofs.Common.{◌≡◌, ℕ, ◌^◌, ◌<◌, true, List, ◌∷◌, ◌++◌, decimal, sym, refl, ap, ◌∙◌, arith}
 use Rattle.std.proofs.ByRecursion.{All-append, All-weaker}
 use Rattle.reader.specs.declared.content.Letter.{Letter}
 use Rattle.reader.specs.declared.content.Letter.TheVariants.{Dwell, FaultsFirst}

@@ -16,7 +16,7 @@ use Rattle.reader.specs.declared.fault.ReadFault.TheVariants.{Slip, NoMemory}
 use Rattle.reader.specs.declared.loaded.Loaded.{Loaded}
 use Rattle.reader.specs.Faults.{Refusing, passed_on}
 use Rattle.reader.specs.File.{told, InRanges, RefusedAs}
-use Rattle.reader.specs.Layout.{offsets_of, lead_of, set_all, AllSet, Declined, table_means, means}
+use Rattle.reader.specs.Layout.{offsets_of, lead_of, set_all, AllSet, Declined, table_means}
 use Rattle.reader.specs.Loading.{Says, mode_count, exit_count, lock_count, SoundExits, open_chart, LoadedFrom, BadLock, Unloadable, NotLoaded, TableLaid}
 use Rattle.reader.specs.Rows.{exit_form, exit_told, lock_told}
 use Rattle.reader.specs.Sections.{Fine}

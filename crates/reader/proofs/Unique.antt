@@ -1,10 +1,10 @@
 -- A text is the text of one file at most, and the text of a file within the ranges is not refused.
-use Rattle.std.proofs.Common.{◌≡◌, ℕ, ◌+◌, ◌^◌, ◌<◌, ◌≤◌, ◌⊎◌, List, [], ◌∷◌, ◌++◌, length, Some, None, decimal, sym, refl, ap, ◌∙◌, subst, inl, inr, ⊎_elim, append_assoc, append-nil, arith}
+use Rattle.std.proofs.Common.{◌≡◌, ℕ, ◌+◌, ◌^◌, ◌<◌, ◌≤◌, List, [], ◌∷◌, ◌++◌, length, Some, None, decimal, sym, refl, ap, ◌∙◌, subst, inl, inr, ⊎_elim, append_assoc, append-nil, arith}
 use Rattle.std.proofs.lemmas.Bool.Decides.{nat_tests}
 use Rattle.std.proofs.str.Laws.{order}
 use Rattle.reader.specs.declared.fault.Cause.{Cause}
 use Rattle.reader.specs.Lines.{Free, Form}
-use Rattle.reader.specs.Sections.{line, lines, section, Fine, count_form, LineRead, SectionRead, LineRefused, RowsRefused, SectionRefused, no_line, no_row, slips, at_row, at_count, at_rows}
+use Rattle.reader.specs.Sections.{line, lines, Fine, count_form, LineRead, SectionRead, LineRefused, RowsRefused, SectionRefused, no_line, no_row, slips, at_row, at_count, at_rows}
 use Rattle.reader.specs.File.{HereOrLater}
 use Rattle.reader.proofs.Cuts.{cut_once, not_free}
 use Rattle.reader.proofs.Forms.{Lawful, count_lawful}

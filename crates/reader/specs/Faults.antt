@@ -2,7 +2,6 @@
 use Rattle.std.specs.Prelude.{ℕ}
 use Rattle.reader.specs.declared.fault.Cause.{Cause}
 use Rattle.reader.specs.declared.fault.Cause.TheVariants.{TooLong, NotOfForm, OutOfRange, FromMode, Short, Excess}
-use Rattle.reader.specs.declared.fault.LoadFault.TheVariants as LoadFault
 use Rattle.reader.specs.declared.fault.LoadFault.{LoadFault}
 use Rattle.reader.specs.declared.fault.ReadFault.{ReadFault}
 use Rattle.reader.specs.declared.fault.ReadFault.TheVariants.{Slip, NoMemory}
