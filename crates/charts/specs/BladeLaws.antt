@@ -3,7 +3,7 @@ use Rattle.std.specs.Prelude.{◌≡◌, ℕ, ◌/◌, ◌%◌, ◌<◌, ◌≤�
 use Rattle.std.proofs.Common.{arith, lit≤}
 use Rattle.std.specs.Option.{option_map}
 use Rattle.std.proofs.lemmas.Bool.Decides.{nat_tests}
-use Rattle.charts.specs.Blades.{state_number, state_numbered, mode_of, blades_of, state_at, with_state}
+use Rattle.charts.specs.Blades.{state_number, mode_of, blades_of, state_at, with_state}
 use Rattle.charts.specs.BladeMeaning.{blade_numbered, event_numbered, turn, turn_lead, blade_lead, blade_meaning}
 use Rattle.charts.specs.Meaning.{Lawful}
 use Rattle.charts.specs.declared.lead.Lead.{Lead}
@@ -18,13 +18,6 @@ state_small Working = lit≤ tt
 state_small Holding = lit≤ tt
 state_small Feathering = lit≤ tt
 state_small Feathered = lit≤ tt
-
-state_back : (n : ℕ) → state_number (state_numbered n) ≡ n % 4
-state_back n = grind (arith, nat_tests)
-
--- each mode number has states of its own
-pub mode_back : (p : ℕ) → p < 64 → mode_of (blades_of p) ≡ p
-mode_back p h = omega (arith, state_back (p / 16), state_back (p / 4), state_back p)
 
 mode_small : (s : Blades) → mode_of s < 64
 mode_small s = omega (arith, state_small s.first, state_small s.second, state_small s.third)

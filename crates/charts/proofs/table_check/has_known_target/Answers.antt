@@ -1,4 +1,4 @@
-use Rattle.charts.specs.TableLaws.{target_decided}
+use Rattle.charts.proofs.TableLaws.{target_decided}
 use Rattle.charts.proofs.table_check.has_known_target.Goals as goal
 
 pub returns : goal.returns

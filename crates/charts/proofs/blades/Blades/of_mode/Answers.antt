@@ -1,5 +1,5 @@
 use Rattle.std.proofs.Common.{rules}
-use Rattle.charts.specs.BladeLaws.{mode_back}
+use Rattle.charts.proofs.BladeLaws.{mode_back}
 use Rattle.charts.proofs.blades.Blades.of_mode.Goals as goal
 
 pub returns : goal.returns

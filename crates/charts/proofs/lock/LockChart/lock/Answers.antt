@@ -1,6 +1,6 @@
 use Rattle.std.proofs.Common.{rules}
 use Rattle.charts.specs.LockMeaning.{locks_of}
-use Rattle.charts.specs.LockLaws.{lock_exits}
+use Rattle.charts.proofs.LockLaws.{lock_exits}
 use Rattle.charts.proofs.lock.LockChart.lock.Goals as goal
 
 pub returns : goal.returns

@@ -1,4 +1,4 @@
-use Rattle.charts.specs.LockLaws.{set_new}
+use Rattle.charts.proofs.LockLaws.{set_new}
 use Rattle.charts.proofs.locks.Locks.set.Goals as goal
 
 pub returns : goal.returns

@@ -1,4 +1,4 @@
-use Rattle.charts.specs.LockLaws.{locked_here, locked_later, locked_never}
+use Rattle.charts.proofs.LockLaws.{locked_here, locked_later, locked_never}
 use Rattle.charts.proofs.locks.methods.any_on.Goals as goal
 
 pub returns-then-is_on : goal.returns-then-is_on

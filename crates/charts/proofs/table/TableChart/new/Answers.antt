@@ -1,7 +1,7 @@
 -- The check was made of the lists as slices.
 use Rattle.std.proofs.Common.{Some, None, vec_items, refl}
 use Rattle.charts.proofs.TableAnswers.{answer_from_checked}
-use Rattle.charts.specs.TableLaws.{kept_by_sound, checked_at}
+use Rattle.charts.proofs.TableLaws.{kept_by_sound, checked_at}
 use Rattle.charts.proofs.table.TableChart.new.Goals as goal
 
 pub invariant_of-result : goal.invariant_of-result
