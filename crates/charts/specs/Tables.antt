@@ -66,15 +66,15 @@ abbrev pub FirstUnknownTarget : (modes : ℕ) → List Lead → ℕ → Type 0
 FirstUnknownTarget m es j = (j < length es) × (KnownTarget m es j → ⊥) × ((k : ℕ) → k < j → KnownTarget m es k)
 
 -- a table is refused for a fault only if it has none that is named before it
-abbrev pub RefusedTable : List ℕ → List Lead → ChartFault → Type 0
-RefusedTable os es OffsetCount = GoodCount os → ⊥
-RefusedTable os es (BadOffset i) = GoodCount os × FirstBadOffset os (length es) i
-RefusedTable os es (UnknownTarget j) = GoodCount os × GoodOffsets os (length es) × FirstUnknownTarget (table_modes os) es j
+abbrev pub FaultyTable : List ℕ → List Lead → ChartFault → Type 0
+FaultyTable os es OffsetCount = GoodCount os → ⊥
+FaultyTable os es (BadOffset i) = GoodCount os × FirstBadOffset os (length es) i
+FaultyTable os es (UnknownTarget j) = GoodCount os × GoodOffsets os (length es) × FirstUnknownTarget (table_modes os) es j
 
 -- what the check of a table finds
 abbrev pub CheckedTable : List ℕ → List Lead → Option ChartFault → Type 0
 CheckedTable os es None = SoundTable os es
-CheckedTable os es (Some f) = RefusedTable os es f
+CheckedTable os es (Some f) = FaultyTable os es f
 
 -- the check of a table finds this, and nothing else would be right
 abbrev pub AnswerOfTable : List ℕ → List Lead → Option ChartFault → Type 0

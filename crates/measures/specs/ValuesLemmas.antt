@@ -41,8 +41,8 @@ ranks a b h = grind (arith, nat_tests)
 ranks_not : (a b : FaultsFirst) → faults_first_at_most a b ≡ false → (b.faults < a.faults) ⊎ ((a.faults ≡ b.faults) × (b.ms < a.ms))
 ranks_not a b h = grind (arith, nat_tests)
 
-at_most : (a b : FaultsFirst) → Ranks a b → faults_first_at_most a b ≡ true
-at_most a b h = grind (arith, nat_tests)
+ranks_at_most : (a b : FaultsFirst) → Ranks a b → faults_first_at_most a b ≡ true
+ranks_at_most a b h = grind (arith, nat_tests)
 
 below : (a b : FaultsFirst) → (a.faults < b.faults) ⊎ ((a.faults ≡ b.faults) × (a.ms < b.ms)) → faults_first_at_most b a ≡ false
 below a b h = grind (arith, nat_tests)
@@ -72,9 +72,9 @@ joins_exist (both l r) h =
 
 pub faults_first_laws : Laws no_faults faults_first_step faults_first_joined faults_first_at_most
 faults_first_laws = record {
-  either = λ a b h. at_most b a (grind (arith, ranks_not a b h));
+  either = λ a b h. ranks_at_most b a (grind (arith, ranks_not a b h));
   equal = λ a b h k. let p = ranks a b h in let q = ranks b a k in same_value a b (omega arith) (omega arith);
-  carries = λ a b c h k. let p = ranks a b h in let q = ranks b c k in at_most a c (grind arith);
+  carries = λ a b c h k. let p = ranks a b h in let q = ranks b c k in ranks_at_most a c (grind arith);
   regroups = λ a b c ab bc x y e f g h.
       let p = joined_is a b ab e in
       let q = joined_is b c bc f in
@@ -83,7 +83,7 @@ faults_first_laws = record {
       same_value x y (omega arith) (omega arith);
   nothing_first = λ a. joined_sums no_faults a _ _ (added_fits 0 a.faults (omega arith)) (added_fits 0 a.ms (omega arith)) ∙ ap Some (same_value _ a (omega arith) (omega arith));
   nothing_last = λ a. joined_sums a no_faults _ _ (added_fits a.faults 0 (omega arith)) (added_fits a.ms 0 (omega arith)) ∙ ap Some (same_value _ a (omega arith) (omega arith));
-  nothing_least = λ a. at_most no_faults a (grind (arith, nat_tests));
+  nothing_least = λ a. ranks_at_most no_faults a (grind (arith, nat_tests));
   front_keeps = λ a b c x y less e f.
       let l = ranks_not b a less in
       let p = joined_is c a x e in
