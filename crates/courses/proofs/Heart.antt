@@ -54,7 +54,7 @@ module _ {V : Type 0} {m : Scale V} (laws : LawfulScale m) (x : Exits) (n : ℕ)
         f ++ e ∷ r',
         record { absent = waits; source = inr (f ++ r, there, (length f, e, offer)) },
         let few = bound.few_modes in
-            let small-here = small there.0 there.1 in
+            let small_here = small there.0 there.1 in
             let long = ap length there.2 ∙ length-append f r in
             let longer = length-append f (e ∷ []) in
             let room : length (f ++ e ∷ []) + n ≤ longest = omega (arith, there.1) in
@@ -84,7 +84,7 @@ module _ {V : Type 0} {m : Scale V} (laws : LawfulScale m) (x : Exits) (n : ℕ)
       let offer = o.2.2 in
       let rest = least_short laws x n bound t _ offer.rest offer.least in
       let few = bound.few_modes in
-      let small-here = small o.1.0 o.1.1 in
+      let small_here = small o.1.0 o.1.1 in
       let long = ap length o.1.2 in
       let front = length-take-le o.2.0 o.0 offer.to_stretch in
       omega (arith, ap length offer.is, length-append (take o.2.0 o.0) (o.2.1 ∷ offer.rest), offer.to_stretch, o.1.1))

@@ -5,7 +5,7 @@ use Rattle.charts.specs.Meaning.{Meaning}
 use Rattle.charts.specs.Tables.{table_meaning, AnswerOfTable}
 use Rattle.charts.specs.declared.fault.ChartFault.{ChartFault}
 use Rattle.charts.specs.declared.fault.LockFault.{LockFault}
-use Rattle.reader.specs.Layout.{offsets_of, lead_of, chart_line as Line-of, AllSet, Declined}
+use Rattle.reader.specs.Layout.{offsets_of, lead_of, chart_line as line_of, AllSet, Declined}
 use Rattle.reader.specs.declared.content.ExitLine.{ExitLine}
 use Rattle.reader.specs.declared.content.LockLine.{LockLine}
 use Rattle.program.specs.Report.{chart_line, lock_line}
@@ -23,7 +23,7 @@ laid modes exits = table_meaning (offsets_of modes exits) (map lead_of exits)
 -- lock that is declined
 pub data Outcome (modes : ℕ) (exits : List ExitLine) (locks : List LockLine) (page text : List ℕ) : Type 0 where
   well : Laid modes exits None → AllSet (laid modes exits) [] locks → text ≡ page → Outcome modes exits locks page text
-  no_chart : (f : ChartFault) → Laid modes exits (Some f) → text ≡ chart_line f (Line-of modes f) → Outcome modes exits locks page text
+  no_chart : (f : ChartFault) → Laid modes exits (Some f) → text ≡ chart_line f (line_of modes f) → Outcome modes exits locks page text
   no_lock : (i : ℕ) (f : LockFault) → Laid modes exits None → Declined (laid modes exits) [] locks i f → text ≡ lock_line (lock_number f) i (modes + length exits + 4 + i) → Outcome modes exits locks page text
 
 module _ (modes : ℕ) (exits : List ExitLine) where
@@ -42,7 +42,7 @@ module _ (modes : ℕ) (exits : List ExitLine) where
   one_outcome locks page a b (well s l e) (no_chart f bad e') = absurd (not_both f s bad)
   one_outcome locks page a b (well s l e) (no_lock i f s' bad e') = absurd (none_declined (laid modes exits) [] locks i f l bad)
   one_outcome locks page a b (no_chart f bad e) (well s l e') = absurd (not_both f s bad)
-  one_outcome locks page a b (no_chart f bad e) (no_chart g bad' e') = e ∙ ap (λ h. chart_line h (Line-of modes h)) (one_fault f g bad bad') ∙ sym e'
+  one_outcome locks page a b (no_chart f bad e) (no_chart g bad' e') = e ∙ ap (λ h. chart_line h (line_of modes h)) (one_fault f g bad bad') ∙ sym e'
   one_outcome locks page a b (no_chart f bad e) (no_lock i g s bad' e') = absurd (not_both f s bad)
   one_outcome locks page a b (no_lock i f s bad e) (well s' l e') = absurd (none_declined (laid modes exits) [] locks i f l bad)
   one_outcome locks page a b (no_lock i f s bad e) (no_chart g bad' e') = absurd (not_both g s bad')
