@@ -1,7 +1,7 @@
 -- The worked cases of charts smaller than the hub, and all of them together.
 use Rattle.std.proofs.Common.{zero, suc, [], ◌∷◌, refl, inl, inr, arith}
-use Rattle.measures.specs.Scale.{dwell}
-use Rattle.measures.specs.OnwardLemmas.{some_same, none_some}
+use Rattle.measures.specs.Values.{dwell}
+use Rattle.std.proofs.lemmas.Option.{same_Some, none-some}
 use Rattle.measures.specs.ValuesLemmas.{dwell_laws, faults_first_laws}
 use Rattle.courses.specs.Courses.{Course, Leads, Listed}
 use Rattle.cases.specs.Cases.{chart, hub, hub_locked, pair, loop, WorkedCases}
@@ -12,12 +12,12 @@ use Rattle.cases.proofs.OfferCases.{dead_end, offers_listed}
 
 -- two equal exits
 no_third : (a : Course) → Leads pair 0 1 a → Listed a ((0 ∷ []) ∷ (1 ∷ []) ∷ [])
-no_third [] h = absurd (omega (arith, some_same 0 1 h))
+no_third [] h = absurd (omega (arith, same_Some 0 1 h))
 no_third (zero ∷ []) h = (0, omega arith, refl)
-no_third (zero ∷ e ∷ a) h = absurd (none_some 1 h)
+no_third (zero ∷ e ∷ a) h = absurd (none-some 1 h)
 no_third (suc zero ∷ []) h = (1, omega arith, refl)
-no_third (suc zero ∷ e ∷ a) h = absurd (none_some 1 h)
-no_third (suc (suc f) ∷ a) h = absurd (none_some 1 h)
+no_third (suc zero ∷ e ∷ a) h = absurd (none-some 1 h)
+no_third (suc (suc f) ∷ a) h = absurd (none-some 1 h)
 
 pair_sorted : Sorted dwell pair 0 1 (0 ∷ []) ((1 ∷ []) ∷ [])
 pair_sorted = record { leads = (refl, (refl, tt)); rising = (inr (refl, inr (refl, inl (omega arith))), tt); rest = λ a h. inl (no_third a h) }
@@ -25,7 +25,7 @@ pair_sorted = record { leads = (refl, (refl, tt)); rising = (inr (refl, inr (ref
 -- the start is watched, and no exit is open
 no_second : (a : Course) → Leads (chart ([] ∷ [])) 0 0 a → Listed a ([] ∷ [])
 no_second [] h = (0, omega arith, refl)
-no_second (e ∷ a) h = absurd (none_some 0 h)
+no_second (e ∷ a) h = absurd (none-some 0 h)
 
 lone_sorted : Sorted dwell (chart ([] ∷ [])) 0 0 [] []
 lone_sorted = record { leads = (refl, tt); rising = tt; rest = λ a h. inl (no_second a h) }
@@ -33,9 +33,9 @@ lone_sorted = record { leads = (refl, tt); rising = tt; rest = λ a h. inl (no_s
 -- an exit to itself that dwells no time
 loop_placed : (a : Course) → Leads loop 0 0 a → Placed dwell loop 0 [] ((0 ∷ []) ∷ (0 ∷ 0 ∷ []) ∷ []) a
 loop_placed [] h = inl (0, omega arith, refl)
-loop_placed (suc e ∷ a) h = absurd (none_some 0 h)
+loop_placed (suc e ∷ a) h = absurd (none-some 0 h)
 loop_placed (zero ∷ []) h = inl (1, omega arith, refl)
-loop_placed (zero ∷ suc e ∷ a) h = absurd (none_some 0 h)
+loop_placed (zero ∷ suc e ∷ a) h = absurd (none-some 0 h)
 loop_placed (zero ∷ zero ∷ []) h = inl (2, omega arith, refl)
 loop_placed (zero ∷ zero ∷ e ∷ a) h = inr (before_longer dwell_laws loop 0 (0 ∷ 0 ∷ []) (0 ∷ 0 ∷ []) (e ∷ a) refl refl refl refl (omega arith))
 
@@ -47,8 +47,8 @@ loop_sorted = record {
 }
 
 out_of_reach : (a : Course) → Leads (chart ([] ∷ [] ∷ [])) 0 1 a → ⊥
-out_of_reach [] h = omega (arith, some_same 0 1 h)
-out_of_reach (e ∷ a) h = none_some 1 h
+out_of_reach [] h = omega (arith, same_Some 0 1 h)
+out_of_reach (e ∷ a) h = none-some 1 h
 
 pub worked_cases : WorkedCases
 worked_cases = record {

@@ -1,7 +1,7 @@
 -- The first courses of the hub chart.
 use Rattle.std.proofs.Common.{◌≡◌, ℕ, zero, suc, ◌<◌, Bool, true, false, cond, [], ◌∷◌, length, Some, None, Option, refl, inl, inr, arith}
-use Rattle.measures.specs.Scale.{dwell, faults_first}
-use Rattle.measures.specs.OnwardLemmas.{some_same, none_some}
+use Rattle.measures.specs.Values.{dwell, faults_first}
+use Rattle.std.proofs.lemmas.Option.{same_Some, none-some}
 use Rattle.measures.specs.ValuesLemmas.{dwell_laws, faults_first_laws}
 use Rattle.charts.specs.LockMeaning.{lock_on}
 use Rattle.charts.specs.Locks.{locked}
@@ -13,19 +13,19 @@ use Rattle.cases.proofs.Sorted.{Placed, Sorted, before_longer}
 
 -- the ways on from mode 0
 from_0 : (P : Course → Type 0) → P (1 ∷ []) → ((b : Course) → Leads hub 1 2 b → P (0 ∷ b)) → (a : Course) → Leads hub 0 2 a → P a
-from_0 P out on [] h = absurd (omega (arith, some_same 0 2 h))
+from_0 P out on [] h = absurd (omega (arith, same_Some 0 2 h))
 from_0 P out on (zero ∷ b) h = on b h
 from_0 P out on (suc zero ∷ []) h = out
-from_0 P out on (suc zero ∷ e ∷ b) h = absurd (none_some 2 h)
-from_0 P out on (suc (suc e) ∷ b) h = absurd (none_some 2 h)
+from_0 P out on (suc zero ∷ e ∷ b) h = absurd (none-some 2 h)
+from_0 P out on (suc (suc e) ∷ b) h = absurd (none-some 2 h)
 
 -- the ways on from mode 1
 pub from_1 : (P : Course → Type 0) → P (1 ∷ []) → ((b : Course) → Leads hub 0 2 b → P (0 ∷ b)) → (a : Course) → Leads hub 1 2 a → P a
-from_1 P out back [] h = absurd (omega (arith, some_same 1 2 h))
+from_1 P out back [] h = absurd (omega (arith, same_Some 1 2 h))
 from_1 P out back (zero ∷ b) h = back b h
 from_1 P out back (suc zero ∷ []) h = out
-from_1 P out back (suc zero ∷ e ∷ b) h = absurd (none_some 2 h)
-from_1 P out back (suc (suc e) ∷ b) h = absurd (none_some 2 h)
+from_1 P out back (suc zero ∷ e ∷ b) h = absurd (none-some 2 h)
+from_1 P out back (suc (suc e) ∷ b) h = absurd (none-some 2 h)
 
 -- a course of the hub leaves at mode 0, or at mode 1, or comes back to mode 0
 hub_cases : (P : Course → Type 0) → P (1 ∷ []) → P (0 ∷ 1 ∷ []) → ((b : Course) → Leads hub 0 2 b → P (0 ∷ 0 ∷ b)) → (a : Course) → Leads hub 0 2 a → P a
@@ -62,7 +62,7 @@ by_faults = record {
 
 -- a lock opens no exit
 still_open : (b : Bool) (o : Option Lead) (l : Lead) → cond b None o ≡ Some l → o ≡ Some l
-still_open true o l h = absurd (none_some l h)
+still_open true o l h = absurd (none-some l h)
 still_open false o l h = h
 
 still_leads : (p t : ℕ) (a : Course) → Leads hub_locked p t a → Leads hub p t a
@@ -78,9 +78,9 @@ by_dwell_locked = record {
   rest = λ a h.
       hub_cases
       (λ b. Leads hub_locked 0 2 b → P b)
-      (λ k. absurd (none_some 2 k))
+      (λ k. absurd (none-some 2 k))
       (λ k. inl (0, omega arith, refl))
-      (λ b k. hub_cases (λ c. Leads hub_locked 0 2 (0 ∷ 0 ∷ c) → P (0 ∷ 0 ∷ c)) (λ n. absurd (none_some 2 n)) (λ n. inl (1, omega arith, refl)) (λ c j n. inr (late c j)) b k)
+      (λ b k. hub_cases (λ c. Leads hub_locked 0 2 (0 ∷ 0 ∷ c) → P (0 ∷ 0 ∷ c)) (λ n. absurd (none-some 2 n)) (λ n. inl (1, omega arith, refl)) (λ c j n. inr (late c j)) b k)
       a
       (still_leads 0 2 a h)
       h;

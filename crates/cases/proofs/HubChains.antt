@@ -1,7 +1,9 @@
 -- The chains of a course of the hub chart.
 use Rattle.std.proofs.Common.{◌≡◌, ℕ, ◌+◌, true, [], ◌∷◌, Some, refl, inl, inr, arith}
 use mathlib.Core.List.{head-eq_of_cons-eq}
-use Rattle.measures.specs.Scale.{Scale, LawfulScale, dwell, faults_first}
+use Rattle.measures.specs.Laws.{Laws}
+use Rattle.measures.specs.Operations.{Operations}
+use Rattle.measures.specs.Values.{dwell, faults_first}
 use Rattle.measures.specs.ValuesLemmas.{dwell_laws, faults_first_laws}
 use Rattle.charts.specs.declared.lead.Lead.{Lead}
 use Rattle.courses.specs.Courses.{Exits, Course, value_of, Before, Live, Least, Chain, Detours, ChainOf}
@@ -10,7 +12,7 @@ use Rattle.courses.proofs.LeastCourses.{least_one}
 use Rattle.cases.proofs.Sorted.{before_longer, least_first}
 use Rattle.cases.proofs.HubCases.{from_1, some_step, by_dwell, by_faults}
 
-module _ {V : Type 0} {m : Scale V} (laws : LawfulScale m) where
+module _ {V : Type 0} {m : Operations V} (laws : Laws m) where
   module _ (x : Exits) (t p i e : ℕ) (a : Course) (c : Chain) {r : Course} {l : Lead} where
     -- a step that the least course takes is no detour
     along_least : Least m x t p (e ∷ r) → x p e ≡ Some l → Detours m x t l.to (i + 1) a c → Detours m x t p i (e ∷ a) c

@@ -2,18 +2,16 @@
 use Rattle.std.proofs.Common.{◌≡◌, ℕ, zero, suc, ◌<◌, true, ◌⊎◌, List, [], ◌∷◌, ◌++◌, length, get_or, Some, None, Option, sym, refl, ap, ◌∙◌, subst, inl, inr, ⊎_elim, arith}
 use Rattle.std.specs.List.{AllByRecursion}
 use Rattle.std.proofs.ByRecursion.{All-get_or}
-use Rattle.measures.specs.Laws.{Below}
+use Rattle.measures.specs.Laws.{Laws, Below}
 use Rattle.measures.specs.Rows.{row_from, row_value}
-use Rattle.measures.specs.declared.step.Step.{Step}
-use Rattle.measures.specs.Scale.{Scale, LawfulScale}
-use Rattle.measures.specs.OnwardLemmas.{some_same, onward_parts}
+use Rattle.measures.specs.Operations.{Operations}
 use Rattle.measures.proofs.Rows as rows
 use Rattle.courses.specs.Courses.{Exits, Course, Leads, steps_along, value_of, Smaller, Before, Least, Listed, FirstCourses}
 use Rattle.courses.proofs.Walks.{steps_append}
 use Rattle.courses.proofs.Order.{at_most_cases, before_through}
 
 -- a stands before the first of the list, and each of them before the next
-abbrev pub Rising : {V : Type 0} → Scale V → Exits → ℕ → Course → List Course → Type 0
+abbrev pub Rising : {V : Type 0} → Operations V → Exits → ℕ → Course → List Course → Type 0
 Rising m x s a [] = Unit {0}
 Rising m x s a (b ∷ bs) = Before m x s a b × Rising m x s b bs
 
@@ -23,23 +21,16 @@ last_of a [] = a
 last_of a (b ∷ bs) = last_of b bs
 
 -- c is in the list, or comes after the last of it
-abbrev pub Placed : {V : Type 0} → Scale V → Exits → ℕ → Course → List Course → Course → Type 0
+abbrev pub Placed : {V : Type 0} → Operations V → Exits → ℕ → Course → List Course → Course → Type 0
 Placed m x s a bs c = Listed c (a ∷ bs) ⊎ Before m x s (last_of a bs) c
 
 -- the courses from s to t are those of the list, in order, and others that come after the last of it
-pub record Sorted {V : Type 0} (m : Scale V) (x : Exits) (s t : ℕ) (a : Course) (bs : List Course) : Type 0 where
+pub record Sorted {V : Type 0} (m : Operations V) (x : Exits) (s t : ℕ) (a : Course) (bs : List Course) : Type 0 where
   pub leads : AllByRecursion (Leads x s t) (a ∷ bs)
   pub rising : Rising m x s a bs
   pub rest : (c : Course) → Leads x s t c → Placed m x s a bs c
 
-module _ {V : Type 0} {m : Scale V} (laws : LawfulScale m) where
-  -- a row that goes on from a value comes to no less
-  row_grows : (ss : List Step) (v w : V) → row_from m.step_value m.joined v ss ≡ Some w → m.at_most v w ≡ true
-  row_grows [] v w e = ap (m.at_most v) (sym (some_same v w e)) ∙ rows.at_most_itself laws v
-  row_grows (s ∷ ss) v w e =
-      let c = onward_parts (m.joined v (m.step_value s)) (λ u. row_from m.step_value m.joined u ss) w e in
-      laws.carries v c.0 w (rows.joins_grow laws v (m.step_value s) c.0 c.1) (row_grows ss c.0 w c.2)
-
+module _ {V : Type 0} {m : Operations V} (laws : Laws m) where
   module _ (x : Exits) (s : ℕ) where
     -- a course stands before every longer one that comes to as much by its front f
     pub before_longer : (a f r : Course) {q : ℕ} {u w : V} → Leads x s q f → value_of m x s a ≡ Some u → value_of m x s f ≡ Some w → m.at_most u w ≡ true → length a < length (f ++ r) → Before m x s a (f ++ r)
@@ -51,11 +42,11 @@ module _ {V : Type 0} {m : Scale V} (laws : LawfulScale m) where
         go : (o : Option V) → value_of m x s (f ++ r) ≡ o → Before m x s a (f ++ r)
         go None e = smaller None e tt
         go (Some z) e =
-            let onwards : row_from m.step_value m.joined w (steps_along x q r) ≡ Some z = sym (rows.from_append laws (steps_along x s f) (steps_along x q r) m.nothing w ef) ∙ ap (row_value m.nothing m.step_value m.joined) (sym (steps_append x s q f r hf)) ∙ e in
+            let onwards : row_from m w (steps_along x q r) ≡ Some z = sym (rows.from_append laws (steps_along x s f) (steps_along x q r) m.nothing w ef) ∙ ap (row_value m) (sym (steps_append x s q f r hf)) ∙ e in
             ⊎_elim
             (λ (same : u ≡ z). inr (ea ∙ ap Some same ∙ sym e, inl longer))
-            (λ (less : Below m.at_most u z). smaller (Some z) e less)
-            (at_most_cases laws u z (laws.carries u w z le (row_grows (steps_along x q r) w z onwards)))
+            (λ (less : Below m u z). smaller (Some z) e less)
+            (at_most_cases laws u z (laws.carries u w z le (rows.rows_grow laws (steps_along x q r) w z onwards)))
 
     -- what comes after the last of a rising list comes after all of it
     after_all : (a : Course) (bs : List Course) (c : Course) → Rising m x s a bs → Before m x s (last_of a bs) c → AllByRecursion (λ d. Before m x s d c) (a ∷ bs)

@@ -1,9 +1,10 @@
 -- Worked cases: small charts, and the courses that they have.
-use Rattle.std.specs.Prelude.{◌≡◌, ℕ, cond, T, List, [], ◌∷◌, map, Some, None, nat_le}
+use Rattle.std.specs.Prelude.{◌≡◌, ℕ, if◌then◌else◌, T, List, [], ◌∷◌, map, Some, None, nat_le}
 use Rattle.std.proofs.Common.{lit≤}
 use Rattle.std.specs.List.{slice_get}
-use Rattle.measures.specs.Onward.{onward}
-use Rattle.measures.specs.Scale.{Scale, dwell, faults_first}
+use Rattle.std.specs.Option.{option_and_then}
+use Rattle.measures.specs.Operations.{Operations}
+use Rattle.measures.specs.Values.{dwell, faults_first}
 use Rattle.charts.specs.LockMeaning.{lock_on}
 use Rattle.charts.specs.Locks.{locked}
 use Rattle.charts.specs.declared.lead.Lead.{Lead}
@@ -15,7 +16,7 @@ lead to faults ms few short = record { to = to; step = record { faults = faults;
 
 -- the chart with a row of open exits for each mode
 abbrev pub chart : List (List Lead) → Exits
-chart rows p e = onward (slice_get rows p) (λ row. slice_get row e)
+chart rows p e = option_and_then (λ row. slice_get row e) (slice_get rows p)
 
 -- two modes with a way back between them, each with an exit to mode 2
 abbrev pub hub : Exits
@@ -23,7 +24,7 @@ hub = chart ((lead 1 1 200 tt tt ∷ lead 2 2 50 tt tt ∷ []) ∷ (lead 0 0 500
 
 -- the hub with exit 1 of mode 0 locked
 abbrev pub hub_locked : Exits
-hub_locked p e = cond (locked (lock_on 0 1 ∷ []) p e) None (hub p e)
+hub_locked p e = if locked (lock_on 0 1 ∷ []) p e then None else hub p e
 
 -- two equal exits of mode 0 to mode 1
 abbrev pub pair : Exits
@@ -38,7 +39,7 @@ abbrev pub loop : Exits
 loop = chart ((lead 0 0 0 tt tt ∷ []) ∷ [])
 
 -- the rows are the first courses from s to t, each with its value
-pub record Begins {V : Type 0} (m : Scale V) (x : Exits) (s t : ℕ) (rows : List (Course × V)) : Type 0 where
+pub record Begins {V : Type 0} (m : Operations V) (x : Exits) (s t : ℕ) (rows : List (Course × V)) : Type 0 where
   pub first : FirstCourses m x s t (map (λ r. r.0) rows)
   pub values : map (λ r. value_of m x s r.0) rows ≡ map (λ r. Some r.1) rows
 

@@ -2,8 +2,9 @@
 use Rattle.std.proofs.Common.{◌≡◌, ℕ, ◌+◌, ◌<◌, ◌≤◌, ◌⊎◌, List, [], ◌∷◌, ◌++◌, length, Some, sym, refl, ap, ◌∙◌, subst, inl, inr, ⊎_elim, append-nil, arith}
 use mathlib.Core.List.{head-eq_of_cons-eq, tail-eq_of_cons-eq}
 use Rattle.std.proofs.lemmas.Bool.{cases_eq}
-use Rattle.measures.specs.Scale.{Scale, LawfulScale}
-use Rattle.measures.specs.OnwardLemmas.{some_same}
+use Rattle.measures.specs.Laws.{Laws}
+use Rattle.measures.specs.Operations.{Operations}
+use Rattle.std.proofs.lemmas.Option.{same_Some}
 use Rattle.charts.specs.declared.lead.Lead.{Lead}
 use Rattle.courses.specs.Courses.{Exits, Course, Leads, Least, Detour, Chain, Detours, stretch_from}
 use Rattle.courses.specs.Theorems.{ChainsAreCourses}
@@ -21,7 +22,7 @@ nothing_behind c d f h none = h ∙ ap {B = Chain} (λ (r : Chain). d ++ r) none
 
 -- an exit has one lead
 same_lead : (x : Exits) (p e f : ℕ) (l k : Lead) → e ≡ f → x p e ≡ Some l → x p f ≡ Some k → l ≡ k
-same_lead x p e f l k same h j = some_same l k (sym h ∙ ap (x p) same ∙ j)
+same_lead x p e f l k same h j = same_Some l k (sym h ∙ ap (x p) same ∙ j)
 
 -- the stretch begins behind the last detour
 stretch_last : (c : Chain) (h : ℕ × ℕ) (d : Chain) → stretch_from (c ++ h ∷ d) ≡ stretch_from (h ∷ d)
@@ -37,7 +38,7 @@ stretch_least : (i e : ℕ) (d : Chain) → (d ≡ []) ⊎ (i + 1 < stretch_from
 stretch_least i e [] h = omega arith
 stretch_least i e (f ∷ d) h = ⊎_elim (λ (k : f ∷ d ≡ []). absurd (not_empty f d (sym k))) (λ (k : i + 1 < stretch_from (f ∷ d)). omega arith) h
 
-module _ {V : Type 0} (m : Scale V) (x : Exits) (t : ℕ) where
+module _ {V : Type 0} (m : Operations V) (x : Exits) (t : ℕ) where
   -- the first step of e ∷ a is a detour, and begins the chain c
   abbrev pub Aside : ℕ → ℕ → ℕ → Course → Chain → Lead → Type 0
   Aside p i e a c l = (d : Chain) × Detour m x t p e × (c ≡ (i, e) ∷ d) × Detours m x t l.to (i + 1) a d
@@ -48,7 +49,7 @@ module _ {V : Type 0} (m : Scale V) (x : Exits) (t : ℕ) where
 
   -- what a chain says of the first step, whose lead is known
   first_of : (p i e : ℕ) (a : Course) (c : Chain) (l : Lead) → x p e ≡ Some l → Detours m x t p i (e ∷ a) c → Aside p i e a c l ⊎ Along p i e a c l
-  first_of p i e a c l h k = subst (λ u. Aside p i e a c u ⊎ Along p i e a c u) (some_same k.0 l (sym k.1 ∙ h)) k.2
+  first_of p i e a c l h k = subst (λ u. Aside p i e a c u ⊎ Along p i e a c u) (same_Some k.0 l (sym k.1 ∙ h)) k.2
 
   -- a course has one chain
   pub same_chain : (a : Course) (p i : ℕ) (c d : Chain) → Detours m x t p i a c → Detours m x t p i a d → c ≡ d
@@ -68,7 +69,7 @@ module _ {V : Type 0} (m : Scale V) (x : Exits) (t : ℕ) where
   -- the detours of two courses one behind the other
   pub detours_append : (a b : Course) (p q i k : ℕ) (c d : Chain) → Leads x p q a → k ≡ i + length a → Detours m x t p i a c → Detours m x t q k b d → Detours m x t p i (a ++ b) (c ++ d)
   detours_append [] b p q i k c d h n hc hd =
-      let here : Detours m x t p k b d = subst (λ r. Detours m x t r k b d) (sym (some_same p q h)) hd in
+      let here : Detours m x t p k b d = subst (λ r. Detours m x t r k b d) (sym (same_Some p q h)) hd in
       let same : k ≡ i = omega arith in
       subst (λ u. Detours m x t p i b (u ++ d)) (sym hc) (subst (λ j. Detours m x t p j b d) same here)
   detours_append (e ∷ a) b p q i k c d h n hc hd =
@@ -87,7 +88,7 @@ module _ {V : Type 0} (m : Scale V) (x : Exits) (t : ℕ) where
   pub detours_split : (a b : Course) (p q i k : ℕ) (c : Chain) → Leads x p q a → k ≡ i + length a → Detours m x t p i (a ++ b) c → (d : Chain) × (f : Chain) × (c ≡ d ++ f) × Detours m x t p i a d × Detours m x t q k b f
   detours_split [] b p q i k c h n hc =
       let same : i ≡ k = omega arith in
-      ([], c, refl, refl, subst (λ j. Detours m x t q j b c) same (subst (λ r. Detours m x t r i b c) (some_same p q h) hc))
+      ([], c, refl, refl, subst (λ j. Detours m x t q j b c) same (subst (λ r. Detours m x t r i b c) (same_Some p q h) hc))
   detours_split (e ∷ a) b p q i k c h n hc =
       let l = hc.0 in
       let hq = leads_rest x p q e a l hc.1 h in
@@ -148,7 +149,7 @@ module _ {V : Type 0} (m : Scale V) (x : Exits) (t : ℕ) where
       (λ (u : Along p i f a c l). omega (arith, first_position a l.to (i + 1) k e c d u.1 same))
       h.2
 
-module _ {V : Type 0} {m : Scale V} (laws : LawfulScale m) (x : Exits) (n : ℕ) (bound : Bounded x n) (t : ℕ) where
+module _ {V : Type 0} {m : Operations V} (laws : Laws m) (x : Exits) (n : ℕ) (bound : Bounded x n) (t : ℕ) where
   -- an exit by which a course begins is a detour, or the one that the least course takes
   pub detour_or_least : (p e : ℕ) (a : Course) (l : Lead) → x p e ≡ Some l → Leads x l.to t a → Detour m x t p e ⊎ ((rest : Course) × Least m x t p (e ∷ rest))
   detour_or_least p e a l h k = go (live_least laws x n bound t p (e ∷ a, leads_first x p t e a l h k)).0 (live_least laws x n bound t p (e ∷ a, leads_first x p t e a l h k)).1
@@ -197,8 +198,8 @@ module _ {V : Type 0} {m : Scale V} (laws : LawfulScale m) (x : Exits) (n : ℕ)
   -- a chain belongs to one course
   pub same_course : (a b : Course) (p i : ℕ) (c : Chain) → Leads x p t a → Leads x p t b → Detours m x t p i a c → Detours m x t p i b c → a ≡ b
   same_course [] [] p i c ha hb da db = refl
-  same_course [] (f ∷ b) p i c ha hb da db = absurd (on_from_watched p i f b (some_same p t ha) hb (subst (Detours m x t p i (f ∷ b)) da db))
-  same_course (e ∷ a) [] p i c ha hb da db = absurd (on_from_watched p i e a (some_same p t hb) ha (subst (Detours m x t p i (e ∷ a)) db da))
+  same_course [] (f ∷ b) p i c ha hb da db = absurd (on_from_watched p i f b (same_Some p t ha) hb (subst (Detours m x t p i (f ∷ b)) da db))
+  same_course (e ∷ a) [] p i c ha hb da db = absurd (on_from_watched p i e a (same_Some p t hb) ha (subst (Detours m x t p i (e ∷ a)) db da))
   same_course (e ∷ a) (f ∷ b) p i c ha hb da db =
       let l = da.0 in
       let k = db.0 in

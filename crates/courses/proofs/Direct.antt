@@ -1,11 +1,12 @@
 -- Every walk has a direct one: same ends, no mode twice, neither longer nor greater.
 use Rattle.std.proofs.Common.{◌≡◌, ℕ, suc, ◌+◌, ◌<◌, ◌≤◌, true, ◌⊎◌, List, [], ◌∷◌, ◌++◌, length, get_or, take, drop, Some, Option, sym, refl, ap, ◌∙◌, subst, inl, inr, ⊎_elim, append_assoc, arith, length-append, take-append-drop, length-take}
 use Rattle.std.proofs.lemmas.List.{append-nil}
-use Rattle.measures.specs.Laws.{Below, longest}
+use Rattle.measures.specs.Laws.{Laws, Below, longest}
 use Rattle.measures.specs.Rows.{row_from}
 use Rattle.measures.specs.declared.step.Step.{Step}
-use Rattle.measures.specs.Scale.{Scale, LawfulScale}
-use Rattle.measures.specs.OnwardLemmas.{some_same, onward_parts}
+use Rattle.measures.specs.Operations.{Operations}
+use Rattle.std.proofs.lemmas.Option.{same_Some}
+use Rattle.measures.specs.OptionLemmas.{and_then_parts}
 use Rattle.measures.proofs.Rows as rows
 use Rattle.charts.specs.declared.lead.Lead.{Lead}
 use Rattle.courses.specs.Courses.{Exits, Course, Leads, steps_along, modes_along, value_of}
@@ -15,23 +16,16 @@ use Rattle.courses.proofs.Order.{at_most_cases}
 use Rattle.courses.proofs.Bounds.{Bounded}
 use Rattle.courses.proofs.Modes.{Apart, Met, met_or_not, apart_take, apart_push, modes_push, modes_take, length_modes, leads_take, apart_short}
 
-module _ {V : Type 0} {m : Scale V} (laws : LawfulScale m) where
+module _ {V : Type 0} {m : Operations V} (laws : Laws m) where
   abbrev from : V → List Step → Option V
-  from v ss = row_from m.step_value m.joined v ss
-
-  -- a row only adds to what stands before it
-  pub rows_grow : (ss : List Step) (v w : V) → from v ss ≡ Some w → m.at_most v w ≡ true
-  rows_grow [] v w h = ap (m.at_most v) (sym (some_same v w h)) ∙ rows.at_most_itself laws v
-  rows_grow (s ∷ ss) v w h =
-      let c = onward_parts (m.joined v (m.step_value s)) (λ u. from u ss) w h in
-      laws.carries v c.0 w (rows.joins_grow laws v (m.step_value s) c.0 c.1) (rows_grow ss c.0 w c.2)
+  from v ss = row_from m v ss
 
   -- a common end keeps "at most"
   end_keeps_at_most : (a b c y z : V) → m.at_most a b ≡ true → m.joined a c ≡ Some y → m.joined b c ≡ Some z → m.at_most y z ≡ true
   end_keeps_at_most a b c y z h ey ez =
       ⊎_elim
-      (λ (e : a ≡ b). ap (m.at_most y) (some_same z y (sym ez ∙ ap (λ u. m.joined u c) (sym e) ∙ ey)) ∙ rows.at_most_itself laws y)
-      (λ (l : Below m.at_most a b). laws.either z y (laws.end_keeps a b c y z l ey ez))
+      (λ (e : a ≡ b). ap (m.at_most y) (same_Some z y (sym ez ∙ ap (λ u. m.joined u c) (sym e) ∙ ey)) ∙ rows.at_most_itself laws y)
+      (λ (l : Below m a b). laws.either z y (laws.end_keeps a b c y z l ey ez))
       (at_most_cases laws a b h)
 
   module _ (x : Exits) where
@@ -41,11 +35,11 @@ module _ {V : Type 0} {m : Scale V} (laws : LawfulScale m) where
 
     -- a front of a walk has at most its value
     pub front_at_most : (p q : ℕ) (f a : Course) (u w : V) → Leads x p q f → value_of m x p f ≡ Some u → value_of m x p (f ++ a) ≡ Some w → m.at_most u w ≡ true
-    front_at_most p q f a u w h e k = rows_grow (steps_along x q a) u w (sym (value_onward p q f a u h e) ∙ k)
+    front_at_most p q f a u w h e k = rows.rows_grow laws (steps_along x q a) u w (sym (value_onward p q f a u h e) ∙ k)
 
     -- going on by one more step
     from_first : (z e : ℕ) (a : Course) (l : Lead) (u w : V) → x z e ≡ Some l → from u (steps_along x z (e ∷ a)) ≡ Some w → (v : V) × (m.joined u (m.step_value l.step) ≡ Some v) × (from v (steps_along x l.to a) ≡ Some w)
-    from_first z e a l u w h k = onward_parts (m.joined u (m.step_value l.step)) (λ v. from v (steps_along x l.to a)) w (sym (ap (from u) (steps_first x z e a l h)) ∙ k)
+    from_first z e a l u w h k = and_then_parts (m.joined u (m.step_value l.step)) (λ v. from v (steps_along x l.to a)) w (sym (ap (from u) (steps_first x z e a l h)) ∙ k)
 
     module _ (n : ℕ) (bound : Bounded x n) (p q r : ℕ) (f : Course) (front : Leads x p q f) (room : length f + n ≤ longest) where
       -- a walk that meets no mode twice has a value behind the front
@@ -116,7 +110,7 @@ module _ {V : Type 0} {m : Scale V} (laws : LawfulScale m) where
             leads = h ∙ end;
             apart = apart;
             no_longer = inl (sym (append-nil c));
-            no_greater = λ u v w ev at_most k. (v, ev, ap (m.at_most v) (sym (some_same u w k)) ∙ at_most);
+            no_greater = λ u v w ev at_most k. (v, ev, ap (m.at_most v) (sym (same_Some u w k)) ∙ at_most);
           }
       straight (e ∷ a) z c h apart end =
           let g = first_exit x z r e a end in

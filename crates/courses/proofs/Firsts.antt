@@ -1,24 +1,25 @@
 -- The first of the courses from one mode that something holds of.
 use Rattle.std.proofs.Common.{◌≡◌, ℕ, zero, suc, ◌<◌, ◌≤◌, ◌⊎◌, sym, subst, inl, inr, ⊎_elim, arith}
 use Rattle.std.proofs.lemmas.Bool.{cases_lt}
-use Rattle.measures.specs.Scale.{Scale, LawfulScale}
+use Rattle.measures.specs.Laws.{Laws}
+use Rattle.measures.specs.Operations.{Operations}
 use Rattle.courses.specs.Courses.{Exits, Course, Before}
 use Rattle.courses.proofs.Order.{before_through, before_either}
 
 -- a is b or stands before it, both taken from mode p
-abbrev pub NotAfter : {V : Type 0} → Scale V → Exits → ℕ → Course → Course → Type 0
+abbrev pub NotAfter : {V : Type 0} → Operations V → Exits → ℕ → Course → Course → Type 0
 NotAfter m x p a b = (a ≡ b) ⊎ Before m x p a b
 
 -- a is the first of the courses from p that P holds of
-pub record FirstOf {V : Type 0} (m : Scale V) (x : Exits) (p : ℕ) (P : Course → Type 0) (a : Course) : Type 0 where
+pub record FirstOf {V : Type 0} (m : Operations V) (x : Exits) (p : ℕ) (P : Course → Type 0) (a : Course) : Type 0 where
   pub holds : P a
   pub first : (b : Course) → P b → NotAfter m x p a b
 
 -- P has a first course, or holds of none
-abbrev pub FirstOrNone : {V : Type 0} → Scale V → Exits → ℕ → (Course → Type 0) → Type 0
+abbrev pub FirstOrNone : {V : Type 0} → Operations V → Exits → ℕ → (Course → Type 0) → Type 0
 FirstOrNone m x p P = ((a : Course) × FirstOf m x p P a) ⊎ ((a : Course) → P a → ⊥)
 
-module _ {V : Type 0} {m : Scale V} (laws : LawfulScale m) (x : Exits) (p : ℕ) where
+module _ {V : Type 0} {m : Operations V} (laws : Laws m) (x : Exits) (p : ℕ) where
   pub not_after_through : (a b c : Course) → NotAfter m x p a b → NotAfter m x p b c → NotAfter m x p a c
   not_after_through a b c h k =
       ⊎_elim

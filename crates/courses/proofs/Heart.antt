@@ -2,9 +2,9 @@
 use Rattle.std.proofs.Common.{◌≡◌, ℕ, zero, suc, ◌+◌, ◌*◌, ◌<◌, ◌≤◌, ◌⊎◌, List, [], ◌∷◌, ◌++◌, length, get_or, take, sym, refl, ap, ◌∙◌, subst, inl, inr, ⊎_elim, append_assoc, arith, length-append}
 use Rattle.std.proofs.lemmas.List.{take_all, get_or-take, length-take-le, get_or_append_left, get_or_push, length_push}
 use Rattle.std.proofs.lemmas.Bool.{cases_lt}
-use Rattle.measures.specs.Laws.{longest}
-use Rattle.measures.specs.Scale.{Scale, LawfulScale}
-use Rattle.measures.specs.OnwardLemmas.{some_same}
+use Rattle.measures.specs.Laws.{Laws, longest}
+use Rattle.measures.specs.Operations.{Operations}
+use Rattle.std.proofs.lemmas.Option.{same_Some}
 use Rattle.courses.specs.Courses.{Exits, Course, Leads, Before, Least, Offer, Listed, FirstCourses, Waiting}
 use Rattle.courses.proofs.Bounds.{Bounded}
 use Rattle.courses.proofs.LeastCourses.{live_least, least_one}
@@ -20,7 +20,7 @@ use Rattle.courses.proofs.Short.{least_short, least_behind}
 abbrev Small : List Course → Type 0
 Small ds = (k : ℕ) → k < length ds → length (get_or ds k []) < 4096 * (k + 1)
 
-module _ {V : Type 0} {m : Scale V} (laws : LawfulScale m) (x : Exits) (n : ℕ) (bound : Bounded x n) (s t : ℕ) where
+module _ {V : Type 0} {m : Operations V} (laws : Laws m) (x : Exits) (n : ℕ) (bound : Bounded x n) (s t : ℕ) where
   -- for a course that is not listed, one waits that is it or stands before it
   abbrev Found : List Course → Course → Type 0
   Found ds a = (w : Course) × Waiting m x s t ds w × ((w ≡ a) ⊎ Before m x s w a)
@@ -32,7 +32,7 @@ module _ {V : Type 0} {m : Scale V} (laws : LawfulScale m) (x : Exits) (n : ℕ)
   -- go along the course while what the front gives is listed
   find_from : (ds : List Course) → Small ds → length ds ≤ 65534 → (q : ℕ) (f g r : Course) → Leads x s q f → Leads x q t g → Least m x t q r → Listed (f ++ r) ds → (Listed (f ++ g) ds → ⊥) → Found ds (f ++ g)
   find_from ds small size q f [] r hf hg least there absent =
-      let end : q ≡ t = some_same q t hg in
+      let end : q ≡ t = same_Some q t hg in
       let none : r ≡ [] = least_one laws x t t r [] (subst (λ p. Least m x t p r) end least) (least_at_watched laws x t) in
       absurd (absent (subst (λ h. Listed (f ++ h) ds) none there))
   find_from ds small size q f (e ∷ g) r hf hg least there absent =

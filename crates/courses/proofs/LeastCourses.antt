@@ -1,9 +1,10 @@
 -- Every mode has one least course, of fewer steps than there are modes, or is dead.
 use Rattle.std.proofs.Common.{◌≡◌, ℕ, zero, suc, ◌-◌, ◌<◌, ◌≤◌, ◌⊎◌, [], ◌∷◌, length, Some, None, Option, sym, refl, ap, ◌∙◌, subst, inl, inr, ⊎_elim, arith}
 use Rattle.std.proofs.lemmas.Bool.{cases_eq}
-use Rattle.measures.specs.Laws.{longest}
-use Rattle.measures.specs.Scale.{Scale, LawfulScale}
-use Rattle.measures.specs.OnwardLemmas.{some_same, none_some, onward_some}
+use Rattle.measures.specs.Laws.{Laws, longest}
+use Rattle.measures.specs.Operations.{Operations}
+use Rattle.std.proofs.lemmas.Option.{same_Some, none-some}
+use Rattle.measures.specs.OptionLemmas.{and_then_some}
 use Rattle.charts.specs.declared.lead.Lead.{Lead}
 use Rattle.courses.specs.Courses.{Exits, Course, Leads, Before, Live, Dead, Least}
 use Rattle.courses.proofs.Walks.{first_exit, leads_first}
@@ -26,7 +27,7 @@ Empty t p a = (a ≡ []) × (p ≡ t)
 abbrev Begins : Exits → ℕ → ℕ → ℕ → ℕ → Course → Type 0
 Begins x t k p e a = (rest : Course) × (a ≡ e ∷ rest) × Leads x p t (e ∷ rest) × (length rest ≤ k)
 
-module _ {V : Type 0} {m : Scale V} (laws : LawfulScale m) (x : Exits) where
+module _ {V : Type 0} {m : Operations V} (laws : Laws m) (x : Exits) where
   first_empty : (t p : ℕ) → FirstOrNone m x p (Empty t p)
   first_empty t p = ⊎_elim (λ (e : p ≡ t). inl ([], record { holds = (refl, e); first = λ b h. inl (sym h.0) })) (λ (other : p ≡ t → ⊥). inr (λ a h. other h.1)) (cases_eq p t)
 
@@ -35,10 +36,10 @@ module _ {V : Type 0} {m : Scale V} (laws : LawfulScale m) (x : Exits) where
   first_begins t k p e small onward = go (x p e) refl
     where
       rest_leads : (l : Lead) (a : Course) → x p e ≡ Some l → Leads x p t (e ∷ a) → Leads x l.to t a
-      rest_leads l a h k = sym (onward_some _ l _ h) ∙ k
+      rest_leads l a h k = sym (and_then_some _ l _ h) ∙ k
 
       go : (o : Option Lead) → x p e ≡ o → FirstOrNone m x p (Begins x t k p e)
-      go None h = inr (λ a b. let f = first_exit x p t e b.0 b.2 in none_some f.0 (sym h ∙ f.1))
+      go None h = inr (λ a b. let f = first_exit x p t e b.0 b.2 in none-some f.0 (sym h ∙ f.1))
       go (Some l) h =
           ⊎_elim
           (λ (f : (a : Course) × FirstOf m x l.to (Within x t k l.to) a).
@@ -70,7 +71,7 @@ module _ {V : Type 0} {m : Scale V} (laws : LawfulScale m) (x : Exits) where
     first_within t zero small p = same_kind laws x p (Empty t p) (Within x t 0 p) (λ a h. subst (Within x t 0 p) (sym h.0) (ap Some h.1, omega arith)) back (first_empty t p)
       where
         back : (a : Course) → Within x t 0 p a → Empty t p a
-        back [] h = (refl, some_same p t h.0)
+        back [] h = (refl, same_Some p t h.0)
         back (e ∷ a) h = absurd (omega (arith, h.1))
     first_within t (suc k) small p =
         same_kind
@@ -84,7 +85,7 @@ module _ {V : Type 0} {m : Scale V} (laws : LawfulScale m) (x : Exits) where
         (first_of_two laws x p (Empty t p) (λ a. (e : ℕ) × (e < 64) × Begins x t k p e a) (first_empty t p) (first_of_exits laws x p (Begins x t k p) (λ e. first_begins t k p e small (first_within t k (omega arith))) 64))
       where
         back : (a : Course) → Within x t (suc k) p a → Empty t p a ⊎ ((e : ℕ) × (e < 64) × Begins x t k p e a)
-        back [] h = inl (refl, some_same p t h.0)
+        back [] h = inl (refl, same_Some p t h.0)
         back (e ∷ a) h =
             let f = first_exit x p t e a h.0 in
             inr (e, bound.low_exit p e f.0 f.1, (a, refl, h.0, omega (arith, h.1)))

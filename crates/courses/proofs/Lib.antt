@@ -4,7 +4,6 @@ pub mod Fronts
 pub mod Bounds
 pub mod Same
 pub mod Lists
-pub mod Pigeons
 pub mod Modes
 pub mod Direct
 pub mod Short

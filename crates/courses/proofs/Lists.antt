@@ -3,14 +3,15 @@ use Rattle.std.proofs.Common.{◌≡◌, ℕ, zero, suc, ◌<◌, ◌≤◌, Lis
 use mathlib.Core.Path.{fun_ext}
 use Rattle.std.proofs.lemmas.List.{get_or-take, length-take-le}
 use Rattle.std.proofs.lemmas.Bool.{cases_lt, cases_order}
-use Rattle.measures.specs.Scale.{Scale, LawfulScale}
+use Rattle.measures.specs.Laws.{Laws}
+use Rattle.measures.specs.Operations.{Operations}
 use Rattle.charts.specs.Meaning.{Meaning, SameExits}
 use Rattle.courses.specs.Courses.{Exits, Course, Leads, Before, Listed, FirstCourses}
 use Rattle.courses.specs.Theorems.{ListsAgree}
 use Rattle.courses.proofs.Order.{before_never, before_not_both, before_either}
 use Rattle.courses.proofs.Same.{listed_or_not}
 
-module _ {V : Type 0} {m : Scale V} (laws : LawfulScale m) (x : Exits) (s t : ℕ) where
+module _ {V : Type 0} {m : Operations V} (laws : Laws m) (x : Exits) (s t : ℕ) where
   -- a course that stands before a course of the list is in the list, at a lower place
   pub earlier : (ds : List Course) → FirstCourses m x s t ds → (k : ℕ) → k < length ds → (a : Course) → Leads x s t a → Before m x s a (get_or ds k []) → (j : ℕ) × (j < k) × (get_or ds j [] ≡ a)
   earlier ds first k h a leads before =
@@ -74,7 +75,7 @@ module _ {V : Type 0} {m : Scale V} (laws : LawfulScale m) (x : Exits) (s t : �
   pub firsts_agree : (ds es : List Course) → FirstCourses m x s t ds → FirstCourses m x s t es → (k : ℕ) → k < length ds → k < length es → get_or ds k [] ≡ get_or es k []
   firsts_agree ds es fd fe k hd he = agree_below ds es fd fe (suc k) (omega arith) (omega arith) k (omega arith)
 
-pub lists_agree : {V : Type 0} {m : Scale V} → LawfulScale m → (c d : Meaning) → SameExits c d → ListsAgree m c.exit d.exit
+pub lists_agree : {V : Type 0} {m : Operations V} → Laws m → (c d : Meaning) → SameExits c d → ListsAgree m c.exit d.exit
 lists_agree {m} laws c d same s t ds es fd fe k hd he =
     let exits : c.exit ≡ d.exit = fun_ext (λ p. fun_ext (λ e. same p e)) in
     firsts_agree laws d.exit s t ds es (subst (λ x. FirstCourses m x s t ds) exits fd) fe k hd he

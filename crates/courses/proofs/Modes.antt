@@ -1,13 +1,16 @@
 -- The modes on the way of a walk.
-use Rattle.std.proofs.Common.{◌≡◌, ℕ, zero, suc, ◌<◌, ◌≤◌, ◌⊎◌, List, [], ◌∷◌, ◌++◌, length, get_or, take, Some, None, Option, sym, refl, ap, ◌∙◌, subst, inl, inr, ⊎_elim, arith, length-take}
-use Rattle.std.proofs.lemmas.List.{get_or-take, get_or_push, get_or_append_left, length_push}
-use Rattle.std.proofs.lemmas.Bool.{cases_lt, cases_eq}
-use Rattle.measures.specs.OnwardLemmas.{some_same}
+use Rattle.std.proofs.Common.{◌≡◌, ℕ, zero, suc, ◌<◌, ◌≤◌, true, false, eqb, ◌⊎◌, List, [], ◌∷◌, ◌++◌, length, get_or, take, Some, None, Option, sym, refl, ap, ◌∙◌, subst, inl, inr, ⊎_elim, arith, length-take}
+use Rattle.std.specs.List.{list_any}
+use Rattle.std.proofs.lemmas.List.{get_or-take, get_or_push, get_or_append_left, get_or_default, length_push}
+use Rattle.std.proofs.lemmas.List.Folds.{Any-from_list_any}
+use Rattle.std.proofs.lemmas.Map.Keys.{IsDistinct-from_apart}
+use Rattle.std.proofs.lemmas.Map.Steps.{length-le_from_distinct_below}
+use Rattle.std.proofs.lemmas.Bool.{cases_lt, cases_eq, ne_eqb, eqb-true}
+use Rattle.std.proofs.lemmas.Option.{same_Some}
 use Rattle.charts.specs.declared.lead.Lead.{Lead}
 use Rattle.courses.specs.Courses.{Exits, Course, Leads, modes_along}
 use Rattle.courses.proofs.Walks.{first_exit, leads_first}
 use Rattle.courses.proofs.Bounds.{Bounded}
-use Rattle.courses.proofs.Pigeons.{pigeons}
 
 -- no number stands twice in the list
 abbrev pub Apart : List ℕ → Type 0
@@ -43,6 +46,21 @@ apart_push ms z apart new i k h l e =
     (λ (last : length ms ≤ k). new (i, omega arith, sym front ∙ e ∙ get_or_push ms z 0 k (omega arith)))
     (cases_lt k (length ms))
 
+-- different numbers below n are at most n
+pub apart_few : (ms : List ℕ) (n : ℕ) → Apart ms → ((k : ℕ) → k < length ms → get_or ms k 0 < n) → length ms ≤ n
+apart_few ms n apart low =
+    length-le_from_distinct_below ms n (IsDistinct-from_apart eqb ms differ) listed_low
+  where
+    differ : (i j d : ℕ) → i < j → j < length ms → eqb (get_or ms i d) (get_or ms j d) ≡ false
+    differ i j d h l =
+        ne_eqb (get_or ms i d) (get_or ms j d) (λ e. apart i j h l (get_or_default ms i 0 d (omega arith) ∙ e ∙ get_or_default ms j d 0 l))
+
+    listed_low : (q : ℕ) → list_any (eqb q) ms ≡ true → q < n
+    listed_low q h =
+        let a = Any-from_list_any (eqb q) ms h in
+        let same = get_or_default ms a.0 0 a.1 a.2 in
+        omega (arith, low a.0 a.2, eqb-true q a.1 a.4, a.3)
+
 module _ (x : Exits) where
   pub modes_first : (p e : ℕ) (a : Course) (l : Lead) → x p e ≡ Some l → modes_along x p (e ∷ a) ≡ p ∷ modes_along x l.to a
   modes_first p e a l h = ap (λ (o : Option Lead). p ∷ elim o as (λ _. List ℕ) [ None ↦ [] | Some k ↦ modes_along x k.to a ]) h
@@ -56,7 +74,7 @@ module _ (x : Exits) where
 
   -- one step more meets one mode more
   pub modes_push : (p q e : ℕ) (a : Course) (l : Lead) → Leads x p q a → x q e ≡ Some l → modes_along x p (a ++ e ∷ []) ≡ modes_along x p a ++ l.to ∷ []
-  modes_push p q e [] l h k = modes_first p e [] l (ap (λ r. x r e) (some_same p q h) ∙ k)
+  modes_push p q e [] l h k = modes_first p e [] l (ap (λ r. x r e) (same_Some p q h) ∙ k)
   modes_push p q e (g ∷ a) l h k =
       let f = first_exit x p q g a h in
       modes_first p g (a ++ e ∷ []) f.0 f.1 ∙ ap (λ ms. p ∷ ms) (modes_push f.0.to q e a l f.2 k) ∙ sym (ap (λ ms. ms ++ l.to ∷ []) (modes_first p g a f.0 f.1))
@@ -100,5 +118,5 @@ module _ (x : Exits) where
         let f = first_exit x p q e a h in
         let low = modes_below p q (e ∷ a) h (bounded.known_source p e f.0 f.1) in
         let size = length_modes p q (e ∷ a) h in
-        let few = pigeons n (length (modes_along x p (e ∷ a))) (λ i. get_or (modes_along x p (e ∷ a)) i 0) low apart in
+        let few = apart_few (modes_along x p (e ∷ a)) n apart low in
         omega arith

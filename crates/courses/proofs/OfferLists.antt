@@ -4,8 +4,9 @@ use Rattle.std.specs.List.{ContainsAt as Has, AllByRecursion}
 use Rattle.std.proofs.ByRecursion.{All-get_or, All-push, all-has, has_append_left, has_push}
 use Rattle.std.proofs.lemmas.List.{get_or_push, get_or_append_left, length_push}
 use Rattle.std.proofs.lemmas.Bool.{cases_lt}
-use Rattle.measures.specs.Scale.{Scale, LawfulScale}
-use Rattle.measures.specs.OnwardLemmas.{some_same, none_some}
+use Rattle.measures.specs.Laws.{Laws}
+use Rattle.measures.specs.Operations.{Operations}
+use Rattle.std.proofs.lemmas.Option.{same_Some, none-some}
 use Rattle.charts.specs.declared.lead.Lead.{Lead}
 use Rattle.courses.specs.Courses.{Exits, Course, Leads, Dead, Least, ChainOf, stretch_from, Offer, Earlier, OffersInOrder}
 use Rattle.courses.proofs.Walks.{leads_split}
@@ -80,20 +81,20 @@ rising_push os u up below i k d h l =
     (cases_lt k (length os)))
 
 -- a course has one list of its offers
-pub one_list : {V : Type 0} {m : Scale V} {x : Exits} {t s : ℕ} (a : Course) (os us : List Placed) → OffersInOrder m x t s a os → OffersInOrder m x t s a us → os ≡ us
+pub one_list : {V : Type 0} {m : Operations V} {x : Exits} {t s : ℕ} (a : Course) (os us : List Placed) → OffersInOrder m x t s a os → OffersInOrder m x t s a us → os ≡ us
 one_list {V} {m} {x} {t} {s} a os us f g = same_rising os us f.in_order g.in_order (held os us f g) (held us os g f)
   where
     held : (os us : List Placed) → OffersInOrder m x t s a os → OffersInOrder m x t s a us → (u : Placed) → Has os u → Has us u
     held os us f g u h = g.every u.0 u.1 u.2 (all-has (λ o. Offer m x t s a o.0 o.1 o.2) os u f.offers h)
 
 -- the list holds the offers of the course a below position j, and those at position j below exit f
-record Upto {V : Type 0} (m : Scale V) (x : Exits) (t s : ℕ) (a : Course) (j f : ℕ) (os : List Placed) : Type 0 where
+record Upto {V : Type 0} (m : Operations V) (x : Exits) (t s : ℕ) (a : Course) (j f : ℕ) (os : List Placed) : Type 0 where
   offers : AllByRecursion (λ o. Offer m x t s a o.0 o.1 o.2) os
   in_order : Rising os
   below : (c : Course) → AllByRecursion (λ o. Earlier o (j, f, c)) os
   every : (i e : ℕ) (c : Course) → Offer m x t s a i e c → Earlier (i, e, c) (j, f, c) → Has os (i, e, c)
 
-module _ {V : Type 0} {m : Scale V} (laws : LawfulScale m) (x : Exits) (n : ℕ) (bound : Bounded x n) (t s : ℕ) where
+module _ {V : Type 0} {m : Operations V} (laws : Laws m) (x : Exits) (n : ℕ) (bound : Bounded x n) (t s : ℕ) where
   -- the course a has an offer at position i by exit e, or none there
   abbrev OfferOrNone : Course → ℕ → ℕ → Type 0
   OfferOrNone a i e = ((c : Course) × Offer m x t s a i e c) ⊎ ((c : Course) → Offer m x t s a i e c → ⊥)
@@ -108,13 +109,13 @@ module _ {V : Type 0} {m : Scale V} (laws : LawfulScale m) (x : Exits) (n : ℕ)
   in_stretch a i e q within reached least = go (x q e) refl
     where
       same_mode : (c : Course) (o : Offer m x t s a i e c) → o.mode ≡ q
-      same_mode c o = some_same o.mode q (sym o.reached ∙ reached)
+      same_mode c o = same_Some o.mode q (sym o.reached ∙ reached)
 
       open_here : (c : Course) (o : Offer m x t s a i e c) → x q e ≡ Some o.detour.lead
       open_here c o = ap (λ p. x p e) (sym (same_mode c o)) ∙ o.detour.open_exit
 
       go : (l : Option Lead) → x q e ≡ l → OfferOrNone a i e
-      go None h = inr (λ c o. none_some o.detour.lead (sym h ∙ open_here c o))
+      go None h = inr (λ c o. none-some o.detour.lead (sym h ∙ open_here c o))
       go (Some l) h =
           ⊎_elim
           (λ (r : (b : Course) × Least m x t l.to b × (length b < n)).
@@ -126,7 +127,7 @@ module _ {V : Type 0} {m : Scale V} (laws : LawfulScale m) (x : Exits) (n : ℕ)
           inl (take i a ++ e ∷ r.0, subst (λ b. Offer m x t s b i e (take i a ++ e ∷ r.0)) (take-append-drop i a) (subst (λ k. Offer m x t s (take i a ++ drop i a) k e (take i a ++ e ∷ r.0)) place o)))
           (turn laws x n bound t s q e (take i a) (drop i a) r.0 l reached least h r.1))
           (λ (dead : Dead x t l.to).
-          inr (λ c o. let there = some_same o.detour.lead l (sym (open_here c o) ∙ h) in dead o.detour.lives.0 (subst (λ k. Leads x k.to t o.detour.lives.0) there o.detour.lives.1)))
+          inr (λ c o. let there = same_Some o.detour.lead l (sym (open_here c o) ∙ h) in dead o.detour.lives.0 (subst (λ k. Leads x k.to t o.detour.lives.0) there o.detour.lives.1)))
           (least_or_dead laws x n bound t l.to)
 
   -- a course has an offer at a position by an exit, or none

@@ -3,9 +3,9 @@ use Rattle.std.proofs.Common.{◌≡◌, ℕ, ◌+◌, ◌≤◌, ◌⊎◌, [],
 use mathlib.Core.List.{head-eq_of_cons-eq, tail-eq_of_cons-eq}
 use lib.Seq.{take-append_seam}
 use Rattle.std.proofs.lemmas.List.{same_from_push}
-use Rattle.measures.specs.Laws.{longest}
-use Rattle.measures.specs.Scale.{Scale, LawfulScale}
-use Rattle.measures.specs.OnwardLemmas.{some_same}
+use Rattle.measures.specs.Laws.{Laws, longest}
+use Rattle.measures.specs.Operations.{Operations}
+use Rattle.std.proofs.lemmas.Option.{same_Some}
 use Rattle.charts.specs.declared.lead.Lead.{Lead}
 use Rattle.courses.specs.Courses.{Exits, Course, Leads, Before, Least, Detour, Chain, Detours, ChainOf, stretch_from, Offer}
 use Rattle.courses.specs.Theorems.{ChainsAreCourses}
@@ -25,7 +25,7 @@ last_detour h (g ∷ c) =
     (h ∷ r.0, r.1, r.2, ap {B = Chain} (λ (d : Chain). h ∷ d) r.3)
 
 -- the course a from p, whose first step has position i, makes its last detour at position k by exit e, and those of d before
-record Last {V : Type 0} (m : Scale V) (x : Exits) (t p i : ℕ) (a : Course) (d : Chain) (k e : ℕ) : Type 0 where
+record Last {V : Type 0} (m : Operations V) (x : Exits) (t p i : ℕ) (a : Course) (d : Chain) (k e : ℕ) : Type 0 where
   front : Course
   rest : Course
   mode : ℕ
@@ -38,7 +38,7 @@ record Last {V : Type 0} (m : Scale V) (x : Exits) (t p i : ℕ) (a : Course) (d
   open_exit : x mode e ≡ Some lead
   behind : Detours m x t lead.to (k + 1) rest []
 
-module _ {V : Type 0} (m : Scale V) (x : Exits) (t : ℕ) where
+module _ {V : Type 0} (m : Operations V) (x : Exits) (t : ℕ) where
   -- one step more in front
   last_later : (p i e f : ℕ) (a : Course) (c d : Chain) (k : ℕ) (l : Lead) → x p f ≡ Some l → ((b : Course) → Detours m x t l.to (i + 1) b c → Detours m x t p i (f ∷ b) d) → Last m x t l.to (i + 1) a c k e → Last m x t p i (f ∷ a) d k e
   last_later p i e f a c d k l h more u = record {
@@ -91,7 +91,7 @@ module _ {V : Type 0} (m : Scale V) (x : Exits) (t : ℕ) where
       (λ (u : Along m x t p i f a (g ∷ (d ++ (k, e) ∷ [])) l). last_later p i e f a (g ∷ d) (g ∷ d) k l h.1 (λ b w. (l, h.1, inr (u.0, w))) (last_taken a l.to (i + 1) (g ∷ d) k e u.1))
       h.2
 
-module _ {V : Type 0} {m : Scale V} (laws : LawfulScale m) (x : Exits) (n : ℕ) (bound : Bounded x n) (t : ℕ) where
+module _ {V : Type 0} {m : Operations V} (laws : Laws m) (x : Exits) (n : ℕ) (bound : Bounded x n) (t : ℕ) where
   stand : (s : ℕ) → ChainsAreCourses m x s t
   stand s = chains.chains_are_courses laws x n bound t s
 
@@ -125,7 +125,7 @@ module _ {V : Type 0} {m : Scale V} (laws : LawfulScale m) (x : Exits) (n : ℕ)
         reached = subst (Leads x s q) (sym (take-append_seam f r)) hf;
         detour = u;
         rest = r';
-        least = subst (λ g. Least m x t g.to r') (some_same l u.lead (sym h ∙ u.open_exit)) k;
+        least = subst (λ g. Least m x t g.to r') (same_Some l u.lead (sym h ∙ u.open_exit)) k;
         is = ap {B = Course} (λ (g : Course). g ++ e ∷ r') (sym (take-append_seam f r));
       }))
       (λ (u : (rest : Course) × Least m x t q (e ∷ rest)).
@@ -146,7 +146,7 @@ module _ {V : Type 0} {m : Scale V} (laws : LawfulScale m) (x : Exits) (n : ℕ)
         let same = (stand s).one_chain a o.chain d o.course o.is_chain h in
         let u = cut_in_stretch m x t f r s q 0 i d o.reached place (subst (λ b. ChainOf m x t s b d) whole h) (omega (arith, o.from_stretch, ap stretch_from same)) in
         let w = leads_split x s t f r (subst (Leads x s t) whole o.course) in
-        let leads : Leads x q t r = subst (λ p. Leads x p t r) (some_same w.0 q (sym w.1 ∙ o.reached)) w.2 in
+        let leads : Leads x q t r = subst (λ p. Leads x p t r) (same_Some w.0 q (sym w.1 ∙ o.reached)) w.2 in
         (u.0, no_detours_least r q i leads u.1)
 
     -- the detour of an offer with what follows it
@@ -175,7 +175,7 @@ module _ {V : Type 0} {m : Scale V} (laws : LawfulScale m) (x : Exits) (n : ℕ)
         let l = u.lead in
         let place : length f ≡ i = omega (arith, u.place) in
         let w = leads_split x s t f (e ∷ u.rest) (subst (Leads x s t) u.is hc) in
-        let leads : Leads x q t (e ∷ u.rest) = subst (λ p. Leads x p t (e ∷ u.rest)) (some_same w.0 q (sym w.1 ∙ u.reached)) w.2 in
+        let leads : Leads x q t (e ∷ u.rest) = subst (λ p. Leads x p t (e ∷ u.rest)) (same_Some w.0 q (sym w.1 ∙ u.reached)) w.2 in
         let least : Least m x t l.to u.rest = no_detours_least u.rest l.to (i + 1) (leads_rest x q t e u.rest l u.open_exit leads) u.behind in
         let r = live_least laws x n bound t q (e ∷ u.rest, leads) in
         let chain : ChainOf m x t s (f ++ r.0) (d ++ []) = detours_append m x t f r.0 s q 0 (0 + length f) d [] u.reached refl u.before (least_no_detour r.0 q (0 + length f) r.1) in

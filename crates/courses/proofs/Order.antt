@@ -1,8 +1,8 @@
 -- The order of courses is strict and total.
 use Rattle.std.proofs.Common.{◌≡◌, ℕ, ◌<◌, true, false, ◌⊎◌, [], ◌∷◌, length, Some, None, Option, sym, refl, ap, ◌∙◌, subst, inl, inr, ⊎_elim, arith}
 use Rattle.std.proofs.lemmas.Bool.{cases_Bool, cases_order, both_ways}
-use Rattle.measures.specs.Laws.{Below}
-use Rattle.measures.specs.Scale.{Scale, LawfulScale}
+use Rattle.measures.specs.Laws.{Laws, Below}
+use Rattle.measures.specs.Operations.{Operations}
 use Rattle.measures.proofs.Rows.{at_most_itself}
 use Rattle.courses.specs.Courses.{Exits, Course, value_of, Smaller, Lower, Shorter, Before}
 
@@ -53,19 +53,19 @@ shorter_either a b =
     (⊎_elim (λ (l : length a < length b). inr (inl (inl l))) (λ (l : length b < length a). inr (inr (inl l))))
     (cases_order (length a) (length b))
 
-module _ {V : Type 0} {m : Scale V} (laws : LawfulScale m) where
-  below_never : (a : V) → Below m.at_most a a → ⊥
+module _ {V : Type 0} {m : Operations V} (laws : Laws m) where
+  below_never : (a : V) → Below m a a → ⊥
   below_never a h = both_ways (m.at_most a a) h (at_most_itself laws a)
 
-  pub at_most_below : (a b c : V) → m.at_most a b ≡ true → Below m.at_most b c → Below m.at_most a c
+  pub at_most_below : (a b c : V) → m.at_most a b ≡ true → Below m b c → Below m a c
   at_most_below a b c h k =
       ⊎_elim (λ (l : m.at_most c a ≡ true). absurd (both_ways (m.at_most c b) k (laws.carries c a b l h))) (λ (l : m.at_most c a ≡ false). l) (cases_Bool (m.at_most c a))
 
-  below_through : (a b c : V) → Below m.at_most a b → Below m.at_most b c → Below m.at_most a c
+  below_through : (a b c : V) → Below m a b → Below m b c → Below m a c
   below_through a b c h k = at_most_below a b c (laws.either b a h) k
 
   -- at most: less, or equal
-  pub at_most_cases : (a b : V) → m.at_most a b ≡ true → (a ≡ b) ⊎ Below m.at_most a b
+  pub at_most_cases : (a b : V) → m.at_most a b ≡ true → (a ≡ b) ⊎ Below m a b
   at_most_cases a b h = ⊎_elim (λ (k : m.at_most b a ≡ true). inl (laws.equal a b h k)) (λ (k : m.at_most b a ≡ false). inr k) (cases_Bool (m.at_most b a))
 
   pub smaller_never : (o : Option V) → Smaller m o o → ⊥
@@ -83,7 +83,7 @@ module _ {V : Type 0} {m : Scale V} (laws : LawfulScale m) where
   smaller_either None (Some b) = inr (inr tt)
   smaller_either (Some a) None = inr (inl tt)
   smaller_either (Some a) (Some b) =
-      ⊎_elim (λ (h : m.at_most a b ≡ true). ⊎_elim (λ (e : a ≡ b). inl (ap Some e)) (λ (l : Below m.at_most a b). inr (inl l)) (at_most_cases a b h)) (λ (h : m.at_most a b ≡ false). inr (inr h)) (cases_Bool (m.at_most a b))
+      ⊎_elim (λ (h : m.at_most a b ≡ true). ⊎_elim (λ (e : a ≡ b). inl (ap Some e)) (λ (l : Below m a b). inr (inl l)) (at_most_cases a b h)) (λ (h : m.at_most a b ≡ false). inr (inr h)) (cases_Bool (m.at_most a b))
 
   module _ (x : Exits) (p : ℕ) where
     abbrev value : Course → Option V

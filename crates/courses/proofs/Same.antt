@@ -1,17 +1,14 @@
 -- Whether two courses are the same, and whether a course is in a list.
-use Rattle.std.proofs.Common.{◌≡◌, ℕ, zero, suc, ◌<◌, ◌⊎◌, List, [], ◌∷◌, length, get_or, refl, ap, inl, inr, ⊎_elim, arith}
-use Rattle.std.proofs.lemmas.Bool.{cases_eq}
+use Rattle.std.proofs.Common.{◌≡◌, ℕ, zero, suc, ◌<◌, ◌⊎◌, List, [], ◌∷◌, length, get_or, bytes_eq, inl, inr, ⊎_elim, arith}
+use Rattle.std.proofs.lemmas.Bool.{cases_Bool}
+use Rattle.std.proofs.lemmas.Bool.Decides.{not_from_Decides}
+use Rattle.std.proofs.lemmas.Slice.Eq.{bytes_eq-Decides}
 use Rattle.courses.specs.Courses.{Course, Listed}
 
 pub same_course : (a b : Course) → (a ≡ b) ⊎ (a ≡ b → ⊥)
-same_course [] [] = inl refl
-same_course [] (f ∷ b) = inr (λ h. omega (arith, ap length h))
-same_course (e ∷ a) [] = inr (λ h. omega (arith, ap length h))
-same_course (e ∷ a) (f ∷ b) =
-    ⊎_elim
-    (λ (same : e ≡ f). ⊎_elim (λ (r : a ≡ b). inl (λ i. same i ∷ r i)) (λ (r : a ≡ b → ⊥). inr (λ h. let z : a ≡ b = cc in r z)) (same_course a b))
-    (λ (other : e ≡ f → ⊥). inr (λ h. let z : e ≡ f = cc in other z))
-    (cases_eq e f)
+same_course a b =
+    let told = bytes_eq-Decides a b in
+    ⊎_elim (λ h. inl (told.0 h)) (λ h. inr (not_from_Decides (bytes_eq a b) told h)) (cases_Bool (bytes_eq a b))
 
 listed_later : (a d : Course) (ds : List Course) → Listed a ds → Listed a (d ∷ ds)
 listed_later a d ds h = (suc h.0, omega (arith, h.1), h.2)

@@ -1,10 +1,11 @@
 -- The exits of a mode settle its least course.
 use Rattle.std.proofs.Common.{◌≡◌, ℕ, ◌+◌, ◌<◌, ◌⊎◌, [], ◌∷◌, length, Some, None, Option, sym, refl, ap, ◌∙◌, subst, inl, inr, ⊎_elim, arith}
 use Rattle.std.proofs.lemmas.Bool.{cases_eq}
-use Rattle.measures.specs.Laws.{Below, longest}
+use Rattle.measures.specs.Laws.{Laws, Below, longest}
 use Rattle.measures.specs.Rows.{row_value}
-use Rattle.measures.specs.Scale.{Scale, LawfulScale}
-use Rattle.measures.specs.OnwardLemmas.{some_same, onward_some}
+use Rattle.measures.specs.Operations.{Operations}
+use Rattle.std.proofs.lemmas.Option.{same_Some}
+use Rattle.measures.specs.OptionLemmas.{and_then_some}
 use Rattle.measures.proofs.Rows as rows
 use Rattle.charts.specs.declared.lead.Lead.{Lead}
 use Rattle.courses.specs.Courses.{Exits, Course, Leads, value_of, Smaller, Lower, Shorter, Before, Least, Dead, value_by, Ahead}
@@ -17,7 +18,7 @@ use Rattle.courses.proofs.Fronts.{before_front}
 use Rattle.courses.proofs.Same.{same_course}
 use Rattle.courses.proofs.Short.{short_behind, least_short}
 
-module _ {V : Type 0} {m : Scale V} (laws : LawfulScale m) (x : Exits) where
+module _ {V : Type 0} {m : Operations V} (laws : Laws m) (x : Exits) where
   -- nothing is at most every value, and the empty course has the fewest steps
   pub least_at_watched : (t : ℕ) → Least m x t t []
   least_at_watched t = record { leads = refl; first = λ b leads other. go b other (value_of m x t b) refl }
@@ -28,15 +29,15 @@ module _ {V : Type 0} {m : Scale V} (laws : LawfulScale m) (x : Exits) where
       go (e ∷ b) other (Some v) h =
           ⊎_elim
           (λ (same : m.nothing ≡ v). inr (ap Some same ∙ sym h, inl (omega arith)))
-          (λ (below : Below m.at_most m.nothing v). inl (subst (Smaller m (Some m.nothing)) (sym h) below))
+          (λ (below : Below m m.nothing v). inl (subst (Smaller m (Some m.nothing)) (sym h) below))
           (at_most_cases laws m.nothing v (laws.nothing_least v))
 
   -- the value by way of the first exit is that of the course
   value_first : (t p e : ℕ) (a : Course) (l : Lead) → x p e ≡ Some l → Leads x l.to t a → length a < longest → value_of m x p (e ∷ a) ≡ value_by m x l a
   value_first t p e a l is leads size =
       let v = value_exists laws x l.to t a leads (omega arith) in
-      let alone : value_of m x p (e ∷ []) ≡ Some (m.step_value l.step) = ap (λ ss. row_value m.nothing m.step_value m.joined ss) (steps_first x p e [] l is) ∙ rows.first_step laws l.step [] in
-      sym (value_append laws x p l.to t (e ∷ []) a (m.step_value l.step) v.0 (leads_first x p l.to e [] l is refl) leads (omega arith) alone v.1) ∙ sym (onward_some _ v.0 _ v.1)
+      let alone : value_of m x p (e ∷ []) ≡ Some (m.step_value l.step) = ap (λ ss. row_value m ss) (steps_first x p e [] l is) ∙ rows.first_step laws l.step [] in
+      sym (value_append laws x p l.to t (e ∷ []) a (m.step_value l.step) v.0 (leads_first x p l.to e [] l is refl) leads (omega arith) alone v.1) ∙ sym (and_then_some _ v.0 _ v.1)
 
   -- by two different first exits, the order of the courses is that of the exits
   module _ (t p e f : ℕ) (a b : Course) (l k : Lead) (el : x p e ≡ Some l) (fk : x p f ≡ Some k) (la : Leads x l.to t a) (lb : Leads x k.to t b) (na : length a < longest) (nb : length b < longest) where
@@ -67,7 +68,7 @@ module _ {V : Type 0} {m : Scale V} (laws : LawfulScale m) (x : Exits) where
         ))
         h
 
-module _ {V : Type 0} {m : Scale V} (laws : LawfulScale m) (x : Exits) (n : ℕ) (bound : Bounded x n) where
+module _ {V : Type 0} {m : Operations V} (laws : Laws m) (x : Exits) (n : ℕ) (bound : Bounded x n) where
   -- a course that is not after any short one is not after any
   least_of_short : (t p : ℕ) (a : Course) → Leads x p t a → ((b : Course) → Leads x p t b → length b < n → (b ≡ a → ⊥) → Before m x p a b) → Least m x t p a
   least_of_short t p a leads short =
@@ -93,7 +94,7 @@ module _ {V : Type 0} {m : Scale V} (laws : LawfulScale m) (x : Exits) (n : ℕ)
   pub rest_is_least : (t p e : ℕ) (a : Course) (l : Lead) → Least m x t p (e ∷ a) → x p e ≡ Some l → Least m x t l.to a
   rest_is_least t p e a l least is =
       let f = first_exit x p t e a least.leads in
-      let same : f.0 ≡ l = some_same f.0 l (sym f.1 ∙ is) in
+      let same : f.0 ≡ l = same_Some f.0 l (sym f.1 ∙ is) in
       let leads : Leads x l.to t a = subst (λ (k : Lead). Leads x k.to t a) same f.2 in
       let few = bound.few_modes in
       let size = least_short laws x n bound t p (e ∷ a) least in
@@ -135,14 +136,14 @@ module _ {V : Type 0} {m : Scale V} (laws : LawfulScale m) (x : Exits) (n : ℕ)
       least_of_short t p (e ∷ a) (leads_first x p t e a l is rest.leads) (λ b hb nb other. go is rest na settled.2 b hb nb other)
     where
       go : x p e ≡ Some l → Least m x t l.to a → length a < n → ((f : ℕ) (b : Course) (k : Lead) → (f ≡ e → ⊥) → x p f ≡ Some k → Least m x t k.to b → Ahead m x e l a f k b) → (b : Course) → Leads x p t b → length b < n → (b ≡ e ∷ a → ⊥) → Before m x p (e ∷ a) b
-      go is rest na ahead [] hb nb other = absurd (away (some_same p t hb))
+      go is rest na ahead [] hb nb other = absurd (away (same_Some p t hb))
       go is rest na ahead (f ∷ b) hb nb other =
           let few = bound.few_modes in
           let g = first_exit x p t f b hb in
           let k = g.0 in
           ⊎_elim
           (λ (same : f ≡ e).
-          let one : k ≡ l = some_same k l (sym g.1 ∙ ap (x p) same ∙ is) in
+          let one : k ≡ l = same_Some k l (sym g.1 ∙ ap (x p) same ∙ is) in
           let lb : Leads x l.to t b = subst (λ (j : Lead). Leads x j.to t b) one g.2 in
           let before = rest.first b lb (λ (h : b ≡ a). other (λ i. same i ∷ h i)) in
           subst (λ j. Before m x p (e ∷ a) (j ∷ b)) (sym same)

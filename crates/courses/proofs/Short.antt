@@ -1,8 +1,8 @@
 -- Every course has a short one that is the same or stands before it, also behind a front.
 use Rattle.std.proofs.Common.{◌≡◌, ℕ, ◌+◌, ◌<◌, ◌≤◌, true, ◌⊎◌, [], ◌++◌, length, Some, None, Option, sym, refl, ap, ◌∙◌, subst, inl, inr, ⊎_elim, arith, length-append}
-use Rattle.measures.specs.Laws.{Below, longest}
-use Rattle.measures.specs.Scale.{Scale, LawfulScale}
-use Rattle.measures.specs.OnwardLemmas.{some_same}
+use Rattle.measures.specs.Laws.{Laws, Below, longest}
+use Rattle.measures.specs.Operations.{Operations}
+use Rattle.std.proofs.lemmas.Option.{same_Some}
 use Rattle.courses.specs.Courses.{Exits, Course, Leads, value_of, Smaller, Before, Least}
 use Rattle.courses.proofs.Bounds.{Bounded}
 use Rattle.courses.proofs.Direct.{direct}
@@ -11,7 +11,7 @@ use Rattle.courses.proofs.Order.{at_most_cases, before_never, before_not_both, b
 use Rattle.courses.proofs.Fronts.{before_front}
 use Rattle.courses.proofs.Same.{same_course}
 
-module _ {V : Type 0} {m : Scale V} (laws : LawfulScale m) (x : Exits) (n : ℕ) (bound : Bounded x n) where
+module _ {V : Type 0} {m : Operations V} (laws : Laws m) (x : Exits) (n : ℕ) (bound : Bounded x n) where
   -- of two walks behind a front, one that is shorter and not greater stands first
   shorter_first : (p : ℕ) (a b : Course) (v : V) → value_of m x p b ≡ Some v → ((w : V) → value_of m x p a ≡ Some w → m.at_most v w ≡ true) → length b < length a → Before m x p b a
   shorter_first p a b v e most less = go (value_of m x p a) refl
@@ -21,7 +21,7 @@ module _ {V : Type 0} {m : Scale V} (laws : LawfulScale m) (x : Exits) (n : ℕ)
       go (Some w) h =
           ⊎_elim
           (λ (same : v ≡ w). inr (e ∙ ap Some same ∙ sym h, inl less))
-          (λ (below : Below m.at_most v w). inl (subst (λ q. Smaller m q (value_of m x p a)) (sym e) (subst (Smaller m (Some v)) (sym h) below)))
+          (λ (below : Below m v w). inl (subst (λ q. Smaller m q (value_of m x p a)) (sym e) (subst (Smaller m (Some v)) (sym h) below)))
           (at_most_cases laws v w (most w h))
 
   pub short_behind : (p q r : ℕ) (f a : Course) → Leads x p q f → Leads x q r a → length f + n ≤ longest → (b : Course) × Leads x q r b × (length b < n) × ((b ≡ a) ⊎ Before m x p (f ++ b) (f ++ a))
@@ -36,7 +36,7 @@ module _ {V : Type 0} {m : Scale V} (laws : LawfulScale m) (x : Exits) (n : ℕ)
             (λ (same : b ≡ a). inl same)
             (λ (less : length b < length a).
             inr (shorter_first p (f ++ a) (f ++ b) v.0 v.1
-            (λ w h. let k = d.1.no_greater w h in subst (λ u. m.at_most u w ≡ true) (some_same k.0 v.0 (sym k.1 ∙ v.1)) k.2)
+            (λ w h. let k = d.1.no_greater w h in subst (λ u. m.at_most u w ≡ true) (same_Some k.0 v.0 (sym k.1 ∙ v.1)) k.2)
             (omega (arith, length-append f a, length-append f b))))
             d.1.no_longer,
       )

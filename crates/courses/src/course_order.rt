@@ -1,10 +1,9 @@
-// The order of courses.
-ghost use Rattle.measures.specs.Scale.{scale};
+//! The order of courses.
 ghost use Rattle.courses.specs.Theorems.{OrderStands};
 
 use measures::measure::Measure;
 
-// The courses from a mode stand in a strict and total order, which a common front keeps.
+/// The courses from a mode stand in a strict and total order, which a common front keeps.
 pub fn order_is_total<M: Measure>()
-    ensures { OrderStands (scale M.nothing M.step_value M.joined M.at_most) }
+    ensures { OrderStands M.operations }
 {}

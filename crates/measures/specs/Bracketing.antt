@@ -1,7 +1,8 @@
 -- A join of step values in some bracketing.
 use Rattle.std.specs.Prelude.{ℕ, ◌+◌, List, [], ◌∷◌, ◌++◌, Some, Option}
+use Rattle.measures.specs.Operations.{Operations}
 use Rattle.measures.specs.declared.step.Step.{Step}
-use Rattle.measures.specs.Onward.{onward}
+use Rattle.std.specs.Option.{option_and_then}
 
 -- one step, or two bracketings joined
 pub data Bracketing : Type 0 where
@@ -19,7 +20,7 @@ steps (one s) = s ∷ []
 steps (both l r) = steps l ++ steps r
 
 -- the value that the bracketing comes to, none where one of its joins does not exist
-abbrev pub evaluated : {V : Type 0} → (Step → V) → (V → V → Option V) → Bracketing → Option V
-evaluated step_value joined (one s) = Some (step_value s)
-evaluated step_value joined (both l r) =
-    onward (evaluated step_value joined l) (λ a. onward (evaluated step_value joined r) (λ b. joined a b))
+abbrev pub evaluated : {V : Type 0} → Operations V → Bracketing → Option V
+evaluated m (one s) = Some (m.step_value s)
+evaluated m (both l r) =
+    option_and_then (λ a. option_and_then (m.joined a) (evaluated m r)) (evaluated m l)

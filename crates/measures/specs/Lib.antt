@@ -1,10 +1,9 @@
-pub mod Onward
+pub mod Operations
 pub mod Bracketing
 pub mod Laws
 pub mod Rows
 pub mod Sums
 pub mod Values
-pub mod Scale
 pub mod ValuesLemmas
-pub mod OnwardLemmas
+pub mod OptionLemmas
 pub mod SumsLemmas

@@ -5,16 +5,17 @@ use Rattle.std.proofs.lemmas.Bool.{le-leb, cond-true}
 use Rattle.measures.specs.declared.step.Step.{Step}
 use Rattle.measures.specs.Bracketing.{Bracketing, one, both, count, evaluated}
 use Rattle.measures.specs.Laws.{longest}
-use Rattle.measures.specs.Sums.{added}
-use Rattle.measures.specs.OnwardLemmas.{some_same, none_some, onward_some}
+use Rattle.measures.specs.Sums.{added, summed}
+use Rattle.std.proofs.lemmas.Option.{same_Some, none-some}
+use Rattle.measures.specs.OptionLemmas.{and_then_some}
 
 -- a sum that exists is the sum
 pub added_is : (a b x : ℕ) → added a b ≡ Some x → x ≡ a + b
 added_is a b x e = go (nat_le (a + b) (max 18446744073709551615 (max a b))) e
   where
     go : (t : Bool) → cond t (Some (a + b)) None ≡ Some x → x ≡ a + b
-    go true h = sym (some_same (a + b) x h)
-    go false h = absurd (none_some x h)
+    go true h = sym (same_Some (a + b) x h)
+    go false h = absurd (none-some x h)
 
 -- a sum of two numbers exists where it fits, or where it is one of the two
 pub added_fits : (a b : ℕ) → a + b ≤ max 18446744073709551615 (max a b) → added a b ≡ Some (a + b)
@@ -38,7 +39,7 @@ pub total_fits : (f : Step → ℕ) → Small f → (l r : Bracketing) → count
 total_fits f h l r k = added_fits (total f l) (total f r) (omega (arith, total_small f h l, total_small f h r))
 
 -- every long join of small numbers is their sum
-pub sums_exist : (f : Step → ℕ) → Small f → (t : Bracketing) → count t ≤ longest → evaluated f added t ≡ Some (total f t)
+pub sums_exist : (f : Step → ℕ) → Small f → (t : Bracketing) → count t ≤ longest → evaluated (summed f) t ≡ Some (total f t)
 sums_exist f h (one s) k = refl
 sums_exist f h (both l r) k =
-    onward_some _ (total f l) _ (sums_exist f h l (omega arith)) ∙ onward_some _ (total f r) _ (sums_exist f h r (omega arith)) ∙ total_fits f h l r k
+    and_then_some _ (total f l) _ (sums_exist f h l (omega arith)) ∙ and_then_some _ (total f r) _ (sums_exist f h r (omega arith)) ∙ total_fits f h l r k

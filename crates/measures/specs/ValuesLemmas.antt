@@ -1,5 +1,5 @@
 -- The laws of dwell and of faults-first.
-use Rattle.std.specs.Prelude.{◌≡◌, ℕ, ◌+◌, ◌<◌, ◌≤◌, true, false, ◌⊎◌, Some, nat_le, refl}
+use Rattle.std.specs.Prelude.{◌≡◌, ℕ, ◌+◌, ◌<◌, ◌≤◌, true, false, ◌⊎◌, Some, refl}
 use Rattle.std.proofs.Common.{sym, ap, ◌∙◌, arith}
 use Rattle.std.proofs.lemmas.Bool.{leb-true, leb-false, le-leb, lt-leb}
 use Rattle.std.proofs.lemmas.Bool.Decides.{nat_tests}
@@ -7,8 +7,9 @@ use Rattle.measures.specs.declared.faults_first.FaultsFirst.{FaultsFirst}
 use Rattle.measures.specs.Bracketing.{Bracketing, one, both, count, evaluated}
 use Rattle.measures.specs.Laws.{Laws, longest}
 use Rattle.measures.specs.Sums.{added}
-use Rattle.measures.specs.Values.{step_ms, no_faults, faults_first_step, faults_first_joined, faults_first_at_most}
-use Rattle.measures.specs.OnwardLemmas.{some_same, onward_some, onward_parts}
+use Rattle.measures.specs.Values.{step_ms, dwell, no_faults, faults_first_joined, faults_first_at_most, faults_first}
+use Rattle.std.proofs.lemmas.Option.{same_Some}
+use Rattle.measures.specs.OptionLemmas.{and_then_some, and_then_parts}
 use Rattle.measures.specs.SumsLemmas.{added_is, added_fits, total, Small, total_fits, sums_exist}
 
 small_ms : Small step_ms
@@ -17,7 +18,7 @@ small_ms s = omega (arith, s.short)
 small_faults : Small (λ s. s.faults)
 small_faults s = omega (arith, s.few)
 
-pub dwell_laws : Laws 0 step_ms added nat_le
+pub dwell_laws : Laws dwell
 dwell_laws = record {
   either = λ a b h. le-leb b a (omega (arith, leb-false a b h));
   equal = λ a b h k. omega (arith, leb-true a b h, leb-true b a k);
@@ -50,14 +51,14 @@ below a b h = grind (arith, nat_tests)
 -- a join that exists is both sums
 joined_is : (a b x : FaultsFirst) → faults_first_joined a b ≡ Some x → (x.faults ≡ a.faults + b.faults) × (x.ms ≡ a.ms + b.ms)
 joined_is a b x e =
-    let p = onward_parts (added a.faults b.faults) _ x e in
-    let q = onward_parts (added a.ms b.ms) _ x p.2 in
-    let same = some_same _ x q.2 in
+    let p = and_then_parts (added a.faults b.faults) _ x e in
+    let q = and_then_parts (added a.ms b.ms) _ x p.2 in
+    let same = same_Some _ x q.2 in
     (sym (ap (λ (v : FaultsFirst). v.faults) same) ∙ added_is _ _ p.0 p.1, sym (ap (λ (v : FaultsFirst). v.ms) same) ∙ added_is _ _ q.0 q.1)
 
 -- both sums exist, so the join does
 joined_sums : (a b : FaultsFirst) (f t : ℕ) → added a.faults b.faults ≡ Some f → added a.ms b.ms ≡ Some t → faults_first_joined a b ≡ Some (record { faults = f; ms = t })
-joined_sums a b f t p q = onward_some _ f _ p ∙ onward_some _ t _ q
+joined_sums a b f t p q = and_then_some _ f _ p ∙ and_then_some _ t _ q
 
 same_value : (a b : FaultsFirst) → a.faults ≡ b.faults → a.ms ≡ b.ms → a ≡ b
 same_value a b p q = λ i. record { faults = p i; ms = q i }
@@ -65,12 +66,12 @@ same_value a b p q = λ i. record { faults = p i; ms = q i }
 abbrev both_totals : Bracketing → FaultsFirst
 both_totals t = record { faults = total (λ s. s.faults) t; ms = total step_ms t }
 
-joins_exist : (t : Bracketing) → count t ≤ longest → evaluated faults_first_step faults_first_joined t ≡ Some (both_totals t)
+joins_exist : (t : Bracketing) → count t ≤ longest → evaluated faults_first t ≡ Some (both_totals t)
 joins_exist (one s) h = refl
 joins_exist (both l r) h =
-    onward_some _ (both_totals l) _ (joins_exist l (omega arith)) ∙ onward_some _ (both_totals r) _ (joins_exist r (omega arith)) ∙ joined_sums (both_totals l) (both_totals r) _ _ (total_fits (λ s. s.faults) small_faults l r h) (total_fits step_ms small_ms l r h)
+    and_then_some _ (both_totals l) _ (joins_exist l (omega arith)) ∙ and_then_some _ (both_totals r) _ (joins_exist r (omega arith)) ∙ joined_sums (both_totals l) (both_totals r) _ _ (total_fits (λ s. s.faults) small_faults l r h) (total_fits step_ms small_ms l r h)
 
-pub faults_first_laws : Laws no_faults faults_first_step faults_first_joined faults_first_at_most
+pub faults_first_laws : Laws faults_first
 faults_first_laws = record {
   either = λ a b h. ranks_at_most b a (grind (arith, ranks_not a b h));
   equal = λ a b h k. let p = ranks a b h in let q = ranks b a k in same_value a b (omega arith) (omega arith);

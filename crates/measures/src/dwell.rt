@@ -1,14 +1,13 @@
-// Dwell: the sum of milliseconds, in 64 bits.
-ghost use Rattle.std.specs.Prelude.{◌≡◌, nat_le};
-ghost use Rattle.measures.specs.Sums.{added};
-ghost use Rattle.measures.specs.Values.{step_ms};
+//! Dwell: the sum of milliseconds, in 64 bits.
+ghost use Rattle.std.specs.Prelude.{◌≡◌};
+ghost use Rattle.measures.specs.Values.{step_ms, dwell};
 ghost use Rattle.measures.specs.ValuesLemmas.{dwell_laws};
 
 use crate::measure::Measure;
 use crate::step::Step;
 use std::cmp::Ordering;
 
-// The milliseconds that a step counts for, in every measure that counts them.
+/// The milliseconds that a step counts for, in every measure that counts them.
 pub fn step_ms(step: Step) -> u64
     ensures { result ≡ step_ms step }
 {
@@ -16,13 +15,7 @@ pub fn step_ms(step: Step) -> u64
 }
 
 impl Measure for u64 {
-    ghost nothing = { 0 };
-
-    ghost step_value = { step_ms };
-
-    ghost joined = { added };
-
-    ghost at_most = { nat_le };
+    ghost operations = { dwell };
 
     ghost lawful = { dwell_laws };
 

@@ -1,6 +1,6 @@
-// Faults first: the sum of faults and the sum of milliseconds, 64 bits each. Fewer faults rank first, then fewer
-// milliseconds.
-ghost use Rattle.measures.specs.Values.{no_faults, faults_first_step, faults_first_joined, faults_first_at_most};
+//! Faults first: the sum of faults and the sum of milliseconds, 64 bits each. Fewer faults rank first, then fewer
+//! milliseconds.
+ghost use Rattle.measures.specs.Values.{faults_first};
 ghost use Rattle.measures.specs.ValuesLemmas.{faults_first_laws};
 
 use crate::dwell::step_ms;
@@ -8,20 +8,17 @@ use crate::measure::Measure;
 use crate::step::Step;
 use std::cmp::Ordering;
 
+/// The faults of a course and its milliseconds. The derived order is the measure's: the fields rank in turn.
 #[derive(Clone, Copy, Debug, PartialEq, Eq, PartialOrd, Ord)]
 pub struct FaultsFirst {
+    /// The sum of the faults.
     pub faults: u64,
+    /// The sum of the milliseconds.
     pub ms: u64,
 }
 
 impl Measure for FaultsFirst {
-    ghost nothing = { no_faults };
-
-    ghost step_value = { faults_first_step };
-
-    ghost joined = { faults_first_joined };
-
-    ghost at_most = { faults_first_at_most };
+    ghost operations = { faults_first };
 
     ghost lawful = { faults_first_laws };
 

@@ -1,4 +1,4 @@
-// Measures: what a step of a course counts for, and what a row of steps comes to.
+//! Measures: what a step of a course counts for, and what a row of steps comes to.
 #![tactic(auto)]
 
 pub mod dwell;
