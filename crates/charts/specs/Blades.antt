@@ -1,10 +1,7 @@
 -- Three blades, what each is doing, and the mode number that says so.
-use Rattle.std.specs.Prelude.{ℕ, ◌+◌, ◌*◌, ◌/◌, ◌%◌, cond, ◌==◌}
+use Rattle.std.specs.Prelude.{ℕ, ◌+◌, ◌*◌, ◌/◌, ◌%◌, if◌then◌else◌, List, [], ◌∷◌, ◌==◌, slice_set, slice_index_or}
 use Rattle.charts.specs.declared.blades.State.{State}
 use Rattle.charts.specs.declared.blades.State.TheVariants.{Working, Holding, Feathering, Feathered}
-use Rattle.charts.specs.declared.blades.Blade.{Blade}
-use Rattle.charts.specs.declared.blades.Blade.TheVariants.{First, Second, Third}
-use Rattle.charts.specs.declared.blades.Blades.{Blades}
 
 -- the number of each state
 abbrev pub state_number : State → ℕ
@@ -15,24 +12,20 @@ state_number Feathered = 3
 
 -- the state of a number, of which the remainder by 4 counts
 abbrev pub state_numbered : ℕ → State
-state_numbered n = cond (n % 4 == 0) Working (cond (n % 4 == 1) Holding (cond (n % 4 == 2) Feathering Feathered))
-
--- a mode's number puts the three states side by side
-abbrev pub mode_of : Blades → ℕ
-mode_of s = 16 * state_number s.first + 4 * state_number s.second + state_number s.third
-
--- and so its states are found in it again
-abbrev pub blades_of : ℕ → Blades
-blades_of p = record { first = state_numbered (p / 16); second = state_numbered (p / 4); third = state_numbered p }
+state_numbered n = if n % 4 == 0 then Working else if n % 4 == 1 then Holding else if n % 4 == 2 then Feathering else Feathered
 
 -- what one blade is doing
-abbrev pub state_at : Blades → Blade → State
-state_at s First = s.first
-state_at s Second = s.second
-state_at s Third = s.third
+abbrev pub state_at : List State → ℕ → State
+state_at s b = slice_index_or s b Working
 
 -- the same mode, but for what one blade is doing
-abbrev pub with_state : Blades → Blade → State → Blades
-with_state s First t = record { first = t; second = s.second; third = s.third }
-with_state s Second t = record { first = s.first; second = t; third = s.third }
-with_state s Third t = record { first = s.first; second = s.second; third = t }
+abbrev pub with_state : List State → ℕ → State → List State
+with_state s b t = slice_set s b t
+
+-- a mode's number puts the states of its three blades side by side
+abbrev pub mode_of : List State → ℕ
+mode_of s = 16 * state_number (state_at s 0) + 4 * state_number (state_at s 1) + state_number (state_at s 2)
+
+-- and so its states are found in it again
+abbrev pub blades_of : ℕ → List State
+blades_of p = state_numbered (p / 16) ∷ state_numbered (p / 4) ∷ state_numbered p ∷ []

@@ -1,5 +1,5 @@
--- The number of each refusal, and the place that it names.
-use Rattle.std.specs.Prelude.{ℕ, Some, None, Option}
+-- The number of each refusal, the place that it names, and its text.
+use Rattle.std.specs.Prelude.{ℕ, List, [], ◌++◌, Some, None, Option, codes, decimal}
 use Rattle.charts.specs.declared.fault.ChartFault.{ChartFault}
 use Rattle.charts.specs.declared.fault.ChartFault.TheVariants.{OffsetCount, BadOffset, UnknownTarget}
 use Rattle.charts.specs.declared.fault.LockFault.{LockFault}
@@ -22,3 +22,17 @@ abbrev pub lock_number : LockFault → ℕ
 lock_number UnknownMode = 20
 lock_number UnknownExit = 21
 lock_number LocksFull = 22
+
+-- the place of a table's refusal, by its word
+abbrev pub chart_place_text : ChartFault → List ℕ
+chart_place_text OffsetCount = []
+chart_place_text (BadOffset i) = codes " offset " ++ decimal i
+chart_place_text (UnknownTarget j) = codes " entry " ++ decimal j
+
+-- a table's refusal: its number and place
+abbrev pub chart_text : ChartFault → List ℕ
+chart_text f = codes "chart " ++ (decimal (chart_number f) ++ chart_place_text f)
+
+-- a lock's refusal: its number
+abbrev pub lock_text : LockFault → List ℕ
+lock_text f = codes "lock " ++ decimal (lock_number f)

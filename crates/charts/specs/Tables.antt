@@ -1,5 +1,5 @@
 -- A table of offsets and entries: when it is a chart, why it is refused, and what it means.
-use Rattle.std.specs.Prelude.{◌≡◌, ℕ, ◌+◌, ◌-◌, ◌<◌, ◌≤◌, cond, List, length, Some, None, Option, nat_lt, slice_index}
+use Rattle.std.specs.Prelude.{◌≡◌, ℕ, ◌+◌, ◌-◌, ◌<◌, ◌≤◌, if◌then◌else◌, List, length, Some, None, Option, nat_lt, slice_index}
 use Rattle.std.specs.List.{slice_get}
 use Rattle.charts.specs.Meaning.{Meaning}
 use Rattle.charts.specs.declared.fault.ChartFault.{ChartFault}
@@ -16,11 +16,11 @@ table_modes os = length os - 1
 
 -- a mode has as many exits as its offset lies below the next; an unknown mode has none
 abbrev pub table_exits : List ℕ → ℕ → ℕ
-table_exits os p = cond (nat_lt p (table_modes os)) (offset os (p + 1) - offset os p) 0
+table_exits os p = if nat_lt p (table_modes os) then offset os (p + 1) - offset os p else 0
 
 -- its exits are the entries from its offset on
 abbrev pub table_exit : List ℕ → List Lead → ℕ → ℕ → Option Lead
-table_exit os es p e = cond (nat_lt e (table_exits os p)) (slice_get es (offset os p + e)) None
+table_exit os es p e = if nat_lt e (table_exits os p) then slice_get es (offset os p + e) else None
 
 -- what a table means
 abbrev pub table_meaning : List ℕ → List Lead → Meaning

@@ -1,9 +1,9 @@
-// The blade chart: what the events of each blade do in the modes of three blades.
-ghost use Rattle.std.specs.Prelude.{◌≡◌, ◌/◌, ◌%◌, ◌≤◌};
-ghost use Rattle.charts.specs.BladeMeaning.{blade_numbered, event_numbered, turned, turn, blade_meaning};
+//! The blade chart: what the events of each blade do in the modes of three blades.
+ghost use Rattle.std.specs.Prelude.{◌≡◌, ◌%◌};
+ghost use Rattle.charts.specs.BladeMeaning.{event_numbered, turned, turn, blade_meaning};
 ghost use Rattle.charts.specs.BladeLaws.{blade_lawful};
 
-use crate::blades::{Blade, Blades, State};
+use crate::blades::{State, mode_of, states_of};
 use crate::chart::Chart;
 use crate::lead::Lead;
 use measures::step::Step;
@@ -12,7 +12,7 @@ const MODES: u32 = 64;
 
 const EXITS: u32 = 12;
 
-// What can happen to a blade.
+/// What can happen to a blade.
 #[derive(Clone, Copy)]
 enum Event {
     Hold,
@@ -21,7 +21,20 @@ enum Event {
     Finish,
 }
 
-// The state that an event leads a blade to, and the step that this takes.
+/// The events of a blade, in the order of its exits.
+const EVENTS: [Event; 4] = [Event::Hold, Event::Resume, Event::Feather, Event::Finish];
+
+impl Event {
+    /// The event of an exit.
+    // As `State::numbered`: one function over any array of four would be as long as both.
+    fn of(exit: u32) -> Self
+        ensures { result ≡ event_numbered (exit % 4) }
+    {
+        EVENTS[(exit % 4) as usize]
+    }
+}
+
+/// The state that an event leads a blade to, and the step that this takes.
 #[derive(Clone, Copy)]
 struct Turn {
     to: State,
@@ -29,56 +42,33 @@ struct Turn {
 }
 
 impl Turn {
-    // A turn to a state, with its faults and its dwell in milliseconds.
-    fn to(to: State, faults: u8, dwell: u32) -> Option<Self>
-        ensures { (few : faults ≤ 255) (short : dwell ≤ 4294967295) → result ≡ turned to faults dwell few short }
+    /// A turn to a state, with its faults and its dwell in milliseconds.
+    fn to(to: State, faults: u8, dwell: u32) -> Self
+        ensures { result ≡ turned to faults dwell }
     {
-        Some(Turn {
+        Turn {
             to,
             step: Step::new(faults, dwell),
-        })
+        }
     }
 
-    // What an event does to a blade; None where it cannot happen.
+    /// What an event does to a blade; None where it cannot happen.
     fn of(state: State, event: Event) -> Option<Self>
         ensures { result ≡ turn state event }
     {
         match (event, state) {
-            (Event::Hold, State::Working) => Self::to(State::Holding, 1, 200),
-            (Event::Resume, State::Holding) => Self::to(State::Working, 0, 500),
-            (Event::Feather, State::Working) => Self::to(State::Feathering, 1, 100),
-            (Event::Feather, State::Holding) => Self::to(State::Feathering, 0, 300),
-            (Event::Finish, State::Feathering) => Self::to(State::Feathered, 0, 6_000),
-            (Event::Finish, State::Feathered) => Self::to(State::Working, 0, 30_000),
+            (Event::Hold, State::Working) => Some(Self::to(State::Holding, 1, 200)),
+            (Event::Resume, State::Holding) => Some(Self::to(State::Working, 0, 500)),
+            (Event::Feather, State::Working) => Some(Self::to(State::Feathering, 1, 100)),
+            (Event::Feather, State::Holding) => Some(Self::to(State::Feathering, 0, 300)),
+            (Event::Finish, State::Feathering) => Some(Self::to(State::Feathered, 0, 6_000)),
+            (Event::Finish, State::Feathered) => Some(Self::to(State::Working, 0, 30_000)),
             _ => None,
         }
     }
 }
 
-// The blade whose events begin with an exit.
-fn blade_of(exit: u32) -> Blade
-    ensures { result ≡ blade_numbered (exit / 4) }
-{
-    match exit / 4 {
-        0 => Blade::First,
-        1 => Blade::Second,
-        _ => Blade::Third,
-    }
-}
-
-// The event of an exit.
-fn event_of(exit: u32) -> Event
-    ensures { result ≡ event_numbered (exit % 4) }
-{
-    match exit % 4 {
-        0 => Event::Hold,
-        1 => Event::Resume,
-        2 => Event::Feather,
-        _ => Event::Finish,
-    }
-}
-
-// The chart of three blades, which has nothing to keep.
+/// The chart of three blades, which has nothing to keep.
 #[derive(Clone, Copy)]
 pub struct BladeChart;
 
@@ -99,14 +89,14 @@ impl Chart for BladeChart {
         if mode >= MODES || exit >= EXITS {
             return None;
         }
-        let blades = Blades::of_mode(mode);
-        let blade = blade_of(exit);
-        match Turn::of(blades.state(blade), event_of(exit)) {
-            Some(turn) => Some(Lead {
-                to: blades.with_state(blade, turn.to).mode(),
+        let mut states = states_of(mode);
+        let blade = (exit / 4) as usize;
+        Turn::of(states[blade], Event::of(exit)).map(|turn| {
+            states[blade] = turn.to;
+            Lead {
+                to: mode_of(states),
                 step: turn.step,
-            }),
-            None => None,
-        }
+            }
+        })
     }
 }

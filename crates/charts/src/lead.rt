@@ -1,9 +1,11 @@
-// Where an open exit leads.
+//! Where an open exit leads.
 use measures::step::Step;
 
-// The mode led to, and what the step costs.
-#[derive(Clone, Copy)]
+/// Where an open exit leads, and by what step.
+#[derive(Clone, Copy, Debug, PartialEq, Eq)]
 pub struct Lead {
+    /// The mode led to.
     pub to: u32,
+    /// What the step costs.
     pub step: Step,
 }

@@ -1,4 +1,4 @@
-// Charts: the modes of a pitch controller, and where the exits of each lead.
+//! Charts: the modes of a pitch controller, and where the exits of each lead.
 #![tactic(auto)]
 
 pub mod blade;

@@ -1,4 +1,4 @@
-// The lock chart: any chart with some of its exits shut.
+//! The lock chart: any chart with some of its exits shut.
 ghost use Rattle.std.specs.Prelude.{◌≡◌, [], MatchResult};
 ghost use Rattle.std.specs.Result.{result_err};
 ghost use Rattle.charts.specs.LockMeaning.{locks_of, lock_on, chart_meaning, lock_fault, Shuts};
@@ -9,17 +9,18 @@ ghost use Rattle.charts.specs.LockLaws.{lock_lawful};
 use crate::chart::Chart;
 use crate::fault::LockFault;
 use crate::lead::Lead;
-use crate::locks::{Lock, Locks};
+use crate::locks::{Lock, MOST_LOCKS};
+use arrayvec::ArrayVec;
 
-// A chart with up to 32 locks on its exits.
+/// A chart with up to 32 locks on its exits, oldest first.
 #[derive(Drop)]
 pub struct LockChart<C> {
     below: C,
-    locks: Locks,
+    locks: ArrayVec<Lock, MOST_LOCKS>,
 }
 
 impl<C: Chart> LockChart<C> {
-    // The chart itself, with no locks.
+    /// The chart itself, with no locks.
     pub fn new(below: C) -> Self
         ensures below { result.below ≡ below }
         ensures no_locks { locks_of result ≡ [] }
@@ -27,11 +28,11 @@ impl<C: Chart> LockChart<C> {
     {
         LockChart {
             below,
-            locks: Locks::none(),
+            locks: ArrayVec::new(),
         }
     }
 
-    // Shuts an exit. An exit that is locked stays so, and a refusal changes nothing.
+    /// Shuts an exit. An exit that is locked stays so, and a refusal changes nothing.
     pub fn lock(&mut self, mode: u32, exit: u32) -> Result<(), LockFault>
         ensures answer { result_err result ≡ lock_fault (C.Chart.means self.old.below) (locks_of self.old) mode exit }
         ensures locks { MatchResult result (λ _. locks_of self.new ≡ with_lock (locks_of self.old) (lock_on mode exit)) (λ _. locks_of self.new ≡ locks_of self.old) }
@@ -44,7 +45,11 @@ impl<C: Chart> LockChart<C> {
         if exit >= self.below.exits(mode) {
             return Err(LockFault::UnknownExit);
         }
-        self.locks.set(Lock { mode, exit })
+        let lock = Lock { mode, exit };
+        if self.locks.contains(&lock) {
+            return Ok(());
+        }
+        self.locks.try_push(lock).map_err(|_| LockFault::LocksFull)
     }
 }
 
@@ -62,7 +67,7 @@ impl<C: Chart> Chart for LockChart<C> {
     }
 
     fn exit(&self, mode: u32, exit: u32) -> Option<Lead> {
-        if self.locks.hold(mode, exit) {
+        if self.locks.contains(&Lock { mode, exit }) {
             None
         } else {
             self.below.exit(mode, exit)

@@ -1,4 +1,4 @@
-// The sizes that are taken and refused, and a few exits of the blade chart.
+//! The sizes that are taken and refused, and a few exits of the blade chart.
 use crate::blade::BladeChart;
 use crate::chart::Chart;
 use crate::fault::LockFault;
@@ -9,52 +9,35 @@ use measures::step::Step;
 use std::alloc::{AllocError, Global};
 use std::test::Fail;
 
-// A table of `modes` modes, each with `exits` exits to the mode `to`.
+/// A table of `modes` modes, each with `exits` exits to the mode `to`.
 fn table(
     heap: Global,
     modes: u32,
     exits: u32,
     to: u32,
 ) -> Result<Result<TableChart, RefusedTable>, AllocError> {
-    let mut offsets = Vec::new(heap);
-    let mut entries = Vec::new(heap);
-    offsets.push(0)?;
-    let mut end: u32 = 0;
-    for _ in 0..modes {
-        end = end.wrapping_add(exits);
-        offsets.push(end)?;
-    }
-    for _ in 0..end {
-        entries.push(Lead {
-            to,
-            step: Step::new(1, 200),
-        })?;
-    }
+    let offsets: Vec<u32> = (0..=modes)
+        .map(|mode| mode.wrapping_mul(exits))
+        .collect(heap)?;
+    let entries = vec![in heap; lead(to, 1, 200); modes.wrapping_mul(exits) as usize]?;
     Ok(TableChart::new(offsets, entries))
 }
 
-// The number and the place with which a table is refused.
+/// The number and the place with which a table is refused.
 fn refusal(made: Result<TableChart, RefusedTable>) -> Option<(u32, Option<u32>)> {
-    match made {
-        Ok(_) => None,
-        Err(refused) => Some((refused.fault.number(), refused.fault.place())),
-    }
+    made.err()
+        .map(|refused| (refused.fault.number(), refused.fault.place()))
 }
 
-// The number with which a lock is declined, or 0.
-fn declined(answer: Result<(), LockFault>) -> u32 {
-    match answer {
-        Ok(()) => 0,
-        Err(fault) => fault.number(),
-    }
+/// The number with which a lock is declined.
+fn declined(answer: Result<(), LockFault>) -> Option<u32> {
+    answer.err().map(|fault| fault.number())
 }
 
-// The mode, faults and dwell of an open exit.
-fn lead(exit: Option<Lead>) -> Option<(u32, u8, u32)> {
-    match exit {
-        Some(lead) => Some((lead.to, lead.step.faults, lead.step.dwell)),
-        None => None,
-    }
+/// An exit that leads to a mode, by a step of so many faults and milliseconds.
+fn lead(to: u32, faults: u8, dwell: u32) -> Lead {
+    let step = Step::new(faults, dwell);
+    Lead { to, step }
 }
 
 #[test]
@@ -79,20 +62,20 @@ fn locks(rt: HostRuntime) -> Result<(), Fail> {
     };
     let mut chart = LockChart::new(full);
     for exit in 0..32 {
-        assert_eq!(rt; declined(chart.lock(4_095, exit)), 0);
+        assert_eq!(rt; declined(chart.lock(4_095, exit)), None);
     }
     for (mode, exit, want) in [
-        (4_096, 64, 20),
-        (4_095, 64, 21),
-        (4_095, 32, 22),
-        (4_095, 31, 0),
+        (4_096, 64, Some(20)),
+        (4_095, 64, Some(21)),
+        (4_095, 32, Some(22)),
+        (4_095, 31, None),
     ] {
         assert_eq!(rt; declined(chart.lock(mode, exit)), want);
     }
     let mut above = LockChart::new(chart);
-    assert_eq!(rt; declined(above.lock(4_095, 32)), 0);
-    for (exit, want) in [(31, None), (32, None), (33, Some((4_095, 1, 200)))] {
-        assert_eq!(rt; lead(above.exit(4_095, exit)), want);
+    assert_eq!(rt; declined(above.lock(4_095, 32)), None);
+    for (exit, want) in [(31, None), (32, None), (33, Some(lead(4_095, 1, 200)))] {
+        assert_eq!(rt; above.exit(4_095, exit), want);
     }
     Ok(())
 }
@@ -100,13 +83,13 @@ fn locks(rt: HostRuntime) -> Result<(), Fail> {
 #[test]
 fn blades(rt: HostRuntime) {
     let cases = [
-        (0, 10, Some((2, 1, 100))),
-        (0, 0, Some((16, 1, 200))),
-        (63, 7, Some((51, 0, 30_000))),
+        (0, 10, Some(lead(2, 1, 100))),
+        (0, 0, Some(lead(16, 1, 200))),
+        (63, 7, Some(lead(51, 0, 30_000))),
         (0, 1, None),
         (64, 0, None),
     ];
     for (mode, exit, want) in cases {
-        assert_eq!(rt; lead(BladeChart.exit(mode, exit)), want);
+        assert_eq!(rt; BladeChart.exit(mode, exit), want);
     }
 }
