@@ -1,7 +1,8 @@
 -- A text has one first mark.
-use Rattle.std.proofs.Common.{◌≡◌, ℕ, ◌+◌, ◌-◌, ◌<◌, List, [], ◌∷◌, ◌++◌, length, get_or, take, drop, sym, refl, ap, ◌∙◌, take-append-drop}
-use native.Mathlib.Nat.{sub-zero}
-use Rattle.std.proofs.lemmas.List.{drop_more, take_rest}
+use Rattle.std.proofs.Common.{◌≡◌, ◌≢◌, ℕ, ◌+◌, ◌-◌, ◌<◌, List, [], ◌∷◌, ◌++◌, length, take, drop, sym, refl, ap, ◌∙◌, take-append-drop, arith}
+use Rattle.std.specs.List.{HoldsAt, AllWithin}
+use Rattle.std.proofs.ByRecursion.{All-from_get_or}
+use Rattle.std.proofs.lemmas.List.{drop_more, take_rest, get_or-take, length-take}
 use Rattle.reader.specs.Lines.{Free, Cut}
 
 -- two cuts of a text at its first mark are the same
@@ -19,11 +20,9 @@ pub not_free : (e : ℕ) (xs us : List ℕ) → Free e (xs ++ e ∷ us) → ⊥
 not_free e [] us p = p.0 refl
 not_free e (x ∷ xs) us p = not_free e xs us p.1
 
--- the cut at the place i where the first mark stands
-pub cut_at : (e : ℕ) (text : List ℕ) (i : ℕ) → i < length text → get_or text i 0 ≡ e → Free e (take i text) → Cut e text (take i text) (drop (i + 1) text)
-cut_at e text i l h f =
-    (f, sym (take-append-drop i text) ∙ ap (λ t. take i text ++ t) (drop_more text i 0 l ∙ ap (λ b. b ∷ drop (i + 1) text) h))
-
--- the same, as a slice of the code has its parts
-pub cut_found : (e : ℕ) (text : List ℕ) (i : ℕ) → i < length text → get_or text i 0 ≡ e → Free e (take i text) → Cut e text (take (i - 0) text) (take (length text - (i + 1)) (drop (i + 1) text))
-cut_found e text i l h f = rw (sub-zero, take_rest) (cut_at e text i l h f)
+-- the cut at the place i where the first mark stands, as a slice of the code has its parts
+pub cut_found : (e : ℕ) (text : List ℕ) (i : ℕ) → (i < length text) × HoldsAt (λ b. b ≡ e) text i × AllWithin (λ b. b ≢ e) text 0 i → Cut e text (take i text) (take (length text - (i + 1)) (drop (i + 1) text))
+cut_found e text i h =
+    let l = h.0 in
+    let free : Free e (take i text) = All-from_get_or (λ b. b ≢ e) (take i text) 0 (λ k lt. let b : k < i = omega (arith, length-take {A = ℕ}) in rw (get_or-take i text k 0 b) (h.2 k 0 (omega arith) b)) in
+    rw take_rest (free, sym (take-append-drop i text) ∙ ap (λ t. take i text ++ t) (drop_more text i 0 l ∙ ap (λ b. b ∷ drop (i + 1) text) (h.1 0)))

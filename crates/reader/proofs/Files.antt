@@ -1,6 +1,5 @@
 -- Whole files: what is read of one, and why one is refused.
-use Rattle.std.proofs.Common.{◌≡◌, ℕ, ◌+◌, ◌<◌, ◌≤◌, true, false, eqb, List, [], length, IfOk, IfErr, Ok, Err, Result, sym, refl, ap, ◌∙◌, subst, inl, inr, arith, MatchResult}
-use Rattle.std.proofs.lemmas.List.{nil_from_length}
+use Rattle.std.proofs.Common.{◌≡◌, ℕ, ◌+◌, ◌<◌, ◌≤◌, false, eqb, List, [], length, IfErr, Ok, Err, Result, sym, refl, ap, ◌∙◌, subst, inl, inr, arith, MatchResult}
 use Rattle.std.proofs.lemmas.Bool.Decides.{nat_tests}
 use Rattle.reader.specs.declared.content.Content.{Content}
 use Rattle.reader.specs.declared.fault.Cause.{Cause}
@@ -19,17 +18,14 @@ pub refusing_weaker : (e : ReadFault) (P Q : Cause → ℕ → Type 0) → ((c :
 refusing_weaker (Slip at) P Q f h = f _ _ h
 refusing_weaker NoMemory P Q f h = tt
 
--- what reading a section gives: its rows, their count, what follows, and the line on which that begins
-abbrev pub Got : (F : Form) (modes least most first : ℕ) (bytes : List ℕ) (rows : List F.Row) (count : ℕ) (rest : List ℕ) (next : ℕ) → Type 0
-Got F modes least most first bytes rows count rest next =
-    SectionRead F modes least most bytes rows rest × (count ≡ length rows) × (next ≡ first + 1 + count)
+-- what reading a section gives: its rows, what follows, and the line on which that begins
+abbrev pub Got : (F : Form) (modes least most first : ℕ) (bytes : List ℕ) (rows : List F.Row) (rest : List ℕ) (next : ℕ) → Type 0
+Got F modes least most first bytes rows rest next =
+    SectionRead F modes least most bytes rows rest × (next ≡ first + 1 + length rows)
 
 -- a refusal in a section
 here : (F : Form) (modes least most first : ℕ) (bytes : List ℕ) (Later : Cause → ℕ → List F.Row → ℕ → List ℕ → Type 0) (e : ReadFault) → Refusing e (λ c at. (k : ℕ) × (at ≡ first + k) × SectionRefused F modes least most bytes c k) → Refusing e (λ c at. HereOrLater F modes least most first bytes c at (Later c at))
 here F modes least most first bytes Later e h = refusing_weaker e _ _ (λ c at l. inl l) h
-
-pub in_exits : (modes first : ℕ) (bytes : List ℕ) (e : ReadFault) → Refusing e (λ c at. (k : ℕ) × (at ≡ first + k) × SectionRefused exit_form modes 0 512 bytes c k) → Refusing e (λ c at. FromExits modes first bytes c at)
-in_exits modes first bytes e h = here exit_form modes 0 512 first bytes (λ c at _ next rest. FromLocks modes next rest c at) e h
 
 pub in_locks : (modes first : ℕ) (bytes : List ℕ) (e : ReadFault) → Refusing e (λ c at. (k : ℕ) × (at ≡ first + k) × SectionRefused lock_form modes 0 32 bytes c k) → Refusing e (λ c at. FromLocks modes first bytes c at)
 in_locks modes first bytes e h = here lock_form modes 0 32 first bytes (λ c at _ next rest. FromQuestions modes next rest c at) e h
@@ -38,51 +34,27 @@ pub in_questions : (modes first : ℕ) (bytes : List ℕ) (e : ReadFault) → Re
 in_questions modes first bytes e h = here question_form modes 1 8 first bytes (λ c at _ next rest. (c ≡ Excess) × (at ≡ next) × (0 < length rest)) e h
 
 -- a refusal behind a section that stands
-behind : (F : Form) (modes least most first : ℕ) (bytes : List ℕ) (rows : List F.Row) (count : ℕ) (rest : List ℕ) (next : ℕ) (Later : Cause → ℕ → List F.Row → ℕ → List ℕ → Type 0) (e : ReadFault) → Got F modes least most first bytes rows count rest next → Refusing e (λ c at. Later c at rows next rest) → Refusing e (λ c at. HereOrLater F modes least most first bytes c at (Later c at))
-behind F modes least most first bytes rows count rest next Later e got h =
-    let is : next ≡ first + 1 + length rows = got.2 ∙ ap (λ n. first + 1 + n) got.1 in
-    refusing_weaker e _ _ (λ c at l. inr (rows, rest, got.0, subst (λ n. Later c at rows n rest) is l)) h
+behind : (F : Form) (modes least most first : ℕ) (bytes : List ℕ) (rows : List F.Row) (rest : List ℕ) (next : ℕ) (Later : Cause → ℕ → List F.Row → ℕ → List ℕ → Type 0) (e : ReadFault) → Got F modes least most first bytes rows rest next → Refusing e (λ c at. Later c at rows next rest) → Refusing e (λ c at. HereOrLater F modes least most first bytes c at (Later c at))
+behind F modes least most first bytes rows rest next Later e got h =
+    refusing_weaker e _ _ (λ c at l. inr (rows, rest, got.0, subst (λ n. Later c at rows n rest) got.1 l)) h
 
-pub behind_names : (bytes : List ℕ) (names : List (List ℕ)) (count : ℕ) (rest : List ℕ) (next : ℕ) (e : ReadFault) → Got name_form 0 1 64 1 bytes names count rest next → Refusing e (λ c at. FromExits count next rest c at) → Refusing e (λ c at. FromModes bytes c at)
-behind_names bytes names count rest next e got h =
-    behind name_form 0 1 64 1 bytes names count rest next (λ c at rows next rest. FromExits (length rows) next rest c at) e got
-    (subst (λ m. Refusing e (λ c at. FromExits m next rest c at)) got.1 h)
+pub behind_names : (bytes : List ℕ) (names : List (List ℕ)) (modes : ℕ) (rest : List ℕ) (next : ℕ) (e : ReadFault) → modes ≡ length names → Got name_form 0 1 64 1 bytes names rest next → Refusing e (λ c at. FromExits modes next rest c at) → Refusing e (λ c at. FromModes bytes c at)
+behind_names bytes names modes rest next e m got h =
+    behind name_form 0 1 64 1 bytes names rest next (λ c at rows next rest. FromExits (length rows) next rest c at) e got
+    (subst (λ m. Refusing e (λ c at. FromExits m next rest c at)) m h)
 
-pub behind_exits : (modes first : ℕ) (bytes : List ℕ) (exits : List Exit) (count : ℕ) (rest : List ℕ) (next : ℕ) (e : ReadFault) → Got exit_form modes 0 512 first bytes exits count rest next → Refusing e (λ c at. FromLocks modes next rest c at) → Refusing e (λ c at. FromExits modes first bytes c at)
-behind_exits modes first bytes exits count rest next e got h =
-    behind exit_form modes 0 512 first bytes exits count rest next (λ c at _ next rest. FromLocks modes next rest c at) e got h
+pub behind_exits : (modes first : ℕ) (bytes : List ℕ) (exits : List Exit) (rest : List ℕ) (next : ℕ) (e : ReadFault) → Got exit_form modes 0 512 first bytes exits rest next → Refusing e (λ c at. FromLocks modes next rest c at) → Refusing e (λ c at. FromExits modes first bytes c at)
+behind_exits modes first bytes exits rest next e got h =
+    behind exit_form modes 0 512 first bytes exits rest next (λ c at _ next rest. FromLocks modes next rest c at) e got h
 
-pub behind_locks : (modes first : ℕ) (bytes : List ℕ) (locks : List Lock) (count : ℕ) (rest : List ℕ) (next : ℕ) (e : ReadFault) → Got lock_form modes 0 32 first bytes locks count rest next → Refusing e (λ c at. FromQuestions modes next rest c at) → Refusing e (λ c at. FromLocks modes first bytes c at)
-behind_locks modes first bytes locks count rest next e got h =
-    behind lock_form modes 0 32 first bytes locks count rest next (λ c at _ next rest. FromQuestions modes next rest c at) e got h
+pub behind_locks : (modes first : ℕ) (bytes : List ℕ) (locks : List Lock) (rest : List ℕ) (next : ℕ) (e : ReadFault) → Got lock_form modes 0 32 first bytes locks rest next → Refusing e (λ c at. FromQuestions modes next rest c at) → Refusing e (λ c at. FromLocks modes first bytes c at)
+behind_locks modes first bytes locks rest next e got h =
+    behind lock_form modes 0 32 first bytes locks rest next (λ c at _ next rest. FromQuestions modes next rest c at) e got h
 
-pub behind_questions : (modes first : ℕ) (bytes : List ℕ) (questions : List Asked) (count : ℕ) (rest : List ℕ) (next : ℕ) (e : ReadFault) → Got question_form modes 1 8 first bytes questions count rest next → e ≡ Slip (record { fault = Excess; line = next }) → 0 < length rest → Refusing e (λ c at. FromQuestions modes first bytes c at)
-behind_questions modes first bytes questions count rest next e got is some =
-    behind question_form modes 1 8 first bytes questions count rest next (λ c at _ next rest. (c ≡ Excess) × (at ≡ next) × (0 < length rest)) e got
+pub behind_questions : (modes first : ℕ) (bytes : List ℕ) (questions : List Asked) (rest : List ℕ) (next : ℕ) (e : ReadFault) → Got question_form modes 1 8 first bytes questions rest next → e ≡ Slip (record { fault = Excess; line = next }) → 0 < length rest → Refusing e (λ c at. FromQuestions modes first bytes c at)
+behind_questions modes first bytes questions rest next e got is some =
+    behind question_form modes 1 8 first bytes questions rest next (λ c at _ next rest. (c ≡ Excess) × (at ≡ next) × (0 < length rest)) e got
     (subst (λ e. Refusing e (λ c at. (c ≡ Excess) × (at ≡ next) × (0 < length rest))) (sym is) (refl, refl, some))
-
--- what is read of a file, section by section
-pub record Parts (bytes : List ℕ) (f : File) (modes : ℕ) (r1 r2 r3 r4 : List ℕ) : Type 0 where
-  pub counted : modes ≡ length f.names
-  pub names : SectionRead name_form 0 1 64 bytes f.names r1
-  pub exits : SectionRead exit_form modes 0 512 r1 f.exits r2
-  pub locks : SectionRead lock_form modes 0 32 r2 f.locks r3
-  pub questions : SectionRead question_form modes 1 8 r3 f.questions r4
-
-pub file_read : (bytes : List ℕ) (f : File) (modes : ℕ) (r1 r2 r3 r4 : List ℕ) → Parts bytes f modes r1 r2 r3 r4 → length r4 ≡ 0 → (file_text f ≡ bytes) × AllStand f
-file_read bytes f modes r1 r2 r3 r4 p none =
-    let n : r4 ≡ [] = nil_from_length r4 none in
-    let e3 : r3 ≡ section question_form f.questions [] = p.questions.1 ∙ ap (section question_form f.questions) n in
-    let e2 : r2 ≡ section lock_form f.locks (section question_form f.questions []) = p.locks.1 ∙ ap (section lock_form f.locks) e3 in
-    let e1 = p.exits.1 ∙ ap (section exit_form f.exits) e2 in (
-      sym (p.names.1 ∙ ap (section name_form f.names) e1),
-      record {
-        names = p.names.0;
-        exits = subst (λ m. Stands exit_form m 0 512 f.exits) p.counted p.exits.0;
-        locks = subst (λ m. Stands lock_form m 0 32 f.locks) p.counted p.locks.0;
-        questions = subst (λ m. Stands question_form m 1 8 f.questions) p.counted p.questions.0;
-      },
-    )
 
 -- the text of a file that stands is not refused
 unrefused : (f : File) (c : Cause) (at : ℕ) → AllStand f → FromModes (file_text f) c at → ⊥
@@ -141,14 +113,6 @@ refused_once bytes c d at at' (inr h) (inr h') = from_modes_once bytes c d at at
 abbrev Read : List ℕ → Result Content ReadFault → Type 0
 Read bytes r = MatchResult r (λ c. (file_text (told c) ≡ bytes) × AllStand (told c)) (λ e. Refusing e (λ c at. FromModes bytes c at))
 
-pub answer_text : (bytes : List ℕ) (r : Result Content ReadFault) → Read bytes r → IfOk r (λ c. file_text (told c) ≡ bytes)
-answer_text bytes (Ok c) h = h.0
-answer_text bytes (Err e) h = tt
-
-pub answer_ranges : (bytes : List ℕ) (r : Result Content ReadFault) → length bytes ≤ 16384 → Read bytes r → IfOk r (λ c. InRanges (told c))
-answer_ranges bytes (Ok c) small h = (let e = ap length h.0 in omega arith, h.1)
-answer_ranges bytes (Err e) small h = tt
-
 pub refused_as : (bytes : List ℕ) (c : Cause) (at : ℕ) → Refused bytes c at → RefusedAs bytes c at
 refused_as bytes c at h = (h, λ d at' h'. refused_once bytes d c at' at h' h)
 
@@ -163,6 +127,3 @@ answer_exactly bytes (Err NoMemory) h f e s = refl
 
 pub some_left : (n : ℕ) → false ≡ eqb n 0 → 0 < n
 some_left n e = grind (arith, nat_tests)
-
-pub none_left : (n : ℕ) → true ≡ eqb n 0 → n ≡ 0
-none_left n e = grind (arith, nat_tests)

@@ -1,5 +1,6 @@
 -- What is known of a content that is within the ranges.
 use Rattle.std.proofs.Common.{◌≡◌, ℕ, ◌+◌, ◌≤◌, List, [], map, length, IfOk, IfErr, None, Ok, Err, vec_items, string_bytes, Result, ap, ◌∙◌, subst, arith, MatchResult}
+use Rattle.std.specs.List.Sorted.{IsNonDecreasingBy}
 use Rattle.std.proofs.lemmas.List.{length-map}
 use Rattle.charts.specs.declared.locks.Lock.{Lock}
 use Rattle.charts.specs.declared.table.TableChart.{TableChart}
@@ -18,14 +19,14 @@ use Rattle.reader.specs.Faults.{Refusing, passed_on}
 use Rattle.reader.specs.File.{told, InRanges, RefusedAs}
 use Rattle.reader.specs.Layout.{offsets_of, lead_of, set_all, AllSet, Declined, table_means}
 use Rattle.reader.specs.Loading.{Says, mode_count, exit_count, lock_count, SoundExits, open_chart, LoadedFrom, BadLock, Unloadable, NotLoaded, TableLaid}
-use Rattle.reader.specs.Rows.{exit_form, exit_told, lock_told}
-use Rattle.reader.specs.Sections.{Fine}
+use Rattle.reader.specs.Rows.{exit_told, lock_told}
+use Rattle.reader.proofs.Layouts.{fine_rising}
 
 pub record Bounds (c : Content) : Type 0 where
   pub modes : mode_count c ≤ 64
   pub exits : exit_count c ≤ 512
   pub locks : lock_count c ≤ 32
-  pub rising : Fine exit_form (mode_count c) [] (map exit_told (vec_items c.exits))
+  pub rising : IsNonDecreasingBy (λ x. x.from) (vec_items c.exits)
 
 pub bounds : (c : Content) → InRanges (told c) → Bounds c
 bounds c h =
@@ -35,7 +36,7 @@ bounds c h =
       modes = omega arith;
       exits = omega (arith, h.1.exits.1, length-map (vec_items c.exits) exit_told);
       locks = omega (arith, h.1.locks.1, length-map (vec_items c.locks) lock_told);
-      rising = subst (λ n. Fine exit_form n [] (map exit_told (vec_items c.exits))) m h.1.exits.2;
+      rising = fine_rising _ _ h.1.exits.2;
     }
 
 -- what is in hand once the table of a content is laid out: its counts and lines, and the table

@@ -1,5 +1,5 @@
 -- The rows of the four sections: what a line of each holds, and how it is written.
-use Rattle.std.specs.Prelude.{◌≡◌, ℕ, ◌^◌, ◌<◌, ◌≤◌, Bool, true, cond, ◌&&◌, ◌||◌, List, [], ◌∷◌, ◌++◌, length, Some, None, decimal, Option, ◌==◌, nat_le, nat_lt}
+use Rattle.std.specs.Prelude.{◌≡◌, ℕ, ◌^◌, ◌<◌, ◌≤◌, Bool, true, if◌then◌else◌, ◌&&◌, ◌||◌, List, [], ◌∷◌, ◌++◌, length, Some, None, decimal, Option, ◌==◌, nat_le, nat_lt}
 use Rattle.std.specs.List.{AllByRecursion}
 use Rattle.reader.specs.declared.content.ExitLine.{ExitLine}
 use Rattle.reader.specs.declared.content.LockLine.{LockLine}
@@ -45,7 +45,7 @@ last_from n (x ∷ xs) = last_from x.from xs
 
 -- the mode left is one of the modes and not below that of the exit line before
 abbrev pub exit_slip : ℕ → List Exit → Exit → Option Cause
-exit_slip modes before x = cond (nat_lt x.from modes && nat_le (last_from 0 before) x.from) None (Some FromMode)
+exit_slip modes before x = if nat_lt x.from modes && nat_le (last_from 0 before) x.from then None else Some FromMode
 
 abbrev pub exit_form : Form
 exit_form = record { Row = Exit; text = exit_text; Formed = ExitFits; slip = exit_slip }
@@ -82,6 +82,10 @@ abbrev pub letter_byte : Letter → ℕ
 letter_byte Dwell = 100
 letter_byte FaultsFirst = 102
 
+-- the letter as a text
+abbrev pub letter_text : Letter → List ℕ
+letter_text letter = letter_byte letter ∷ []
+
 -- the line begins with the letter, then one space, then rest
 abbrev pub LetterField : List ℕ → Letter → List ℕ → Type 0
 LetterField line l rest = letter_byte l ∷ 32 ∷ rest ≡ line
@@ -98,7 +102,7 @@ AskedFits x = (x.start < 2 ^ 32) × (x.watched < 2 ^ 32) × (x.k < 2 ^ 32)
 
 -- k is at most 99
 abbrev pub question_slip : ℕ → List Asked → Asked → Option Cause
-question_slip modes before x = cond (nat_le x.k 99) None (Some OutOfRange)
+question_slip modes before x = if nat_le x.k 99 then None else Some OutOfRange
 
 abbrev pub question_form : Form
 question_form = record { Row = Asked; text = question_text; Formed = AskedFits; slip = question_slip }

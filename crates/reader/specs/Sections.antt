@@ -1,5 +1,5 @@
 -- A section of a file: its count on a line, then a line for each row.
-use Rattle.std.specs.Prelude.{◌≡◌, ℕ, ◌+◌, ◌^◌, ◌<◌, ◌≤◌, cond, ◌&&◌, List, [], ◌∷◌, ◌++◌, length, Some, None, decimal, nat_le}
+use Rattle.std.specs.Prelude.{◌≡◌, ℕ, ◌+◌, ◌^◌, ◌<◌, ◌≤◌, if◌then◌else◌, ◌&&◌, List, [], ◌∷◌, ◌++◌, length, Some, None, decimal, nat_le}
 use Rattle.reader.specs.declared.fault.Cause.{Cause}
 use Rattle.reader.specs.declared.fault.Cause.TheVariants.{NotOfForm, OutOfRange, Short}
 use Rattle.reader.specs.Lines.{Free, Cut, Form, Reads}
@@ -40,7 +40,7 @@ SectionRead F modes least most bytes rows rest = Stands F modes least most rows 
 
 -- a count line: a number from least to most
 abbrev pub count_form : ℕ → ℕ → Form
-count_form least most = record { Row = ℕ; text = decimal; Formed = λ n. n < 2 ^ 32; slip = λ _ _ n. cond (nat_le least n && nat_le n most) None (Some OutOfRange) }
+count_form least most = record { Row = ℕ; text = decimal; Formed = λ n. n < 2 ^ 32; slip = λ _ _ n. if nat_le least n && nat_le n most then None else Some OutOfRange }
 
 -- why the next line is refused, after the rows before it: there is none, it is not of the form, or its row has a slip
 pub data LineRefused (F : Form) (modes : ℕ) (before : List F.Row) (bytes : List ℕ) : Cause → Type 0 where

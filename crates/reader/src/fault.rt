@@ -1,58 +1,107 @@
-// Why a file is refused.
-ghost use Rattle.std.specs.Prelude.{◌≡◌};
+//! Why a file is refused.
+// Texts and conversions are written by hand: what thiserror's derives write has no contract, and a report rests on the texts and on
+// the errors that `?` makes.
+ghost use Rattle.std.specs.Prelude.{◌≡◌, Some, option_map};
 ghost use Rattle.reader.specs.declared.fault.LoadFault.TheVariants.{Chart as OfChart, Lock as OfLock, NoMemory as OfMemory};
 ghost use Rattle.reader.specs.declared.fault.ReadFault.TheVariants.{NoMemory};
-ghost use Rattle.reader.specs.Faults.{number_of, passed_on};
+ghost use Rattle.reader.specs.Faults.{number_of, passed_on, cause_text, with_line, declined_text, read_text, load_text};
 
 use charts::fault::{ChartFault, LockFault};
 use std::alloc::AllocError;
+use std::error::Error;
+use std::fmt;
 
-// What is wrong with a file's text.
-#[derive(Clone, Copy, Debug)]
+/// What is wrong with a file's text.
+#[derive(Clone, Copy, Debug, PartialEq, Eq)]
 pub enum Cause {
-    TooLong,
-    NotOfForm,
-    OutOfRange,
-    FromMode,
-    Short,
-    Excess,
+    /// The file has over 16,384 bytes.
+    TooLong = 1,
+    /// The line is not of its form.
+    NotOfForm = 2,
+    /// A count, or how many courses a question asks for, is out of its range.
+    OutOfRange = 3,
+    /// An exit line leaves no mode, or a mode below that of the line before.
+    FromMode = 4,
+    /// The file ends before its last section is full.
+    Short = 5,
+    /// Something stands behind the last line.
+    Excess = 6,
 }
 
 impl Cause {
+    /// The cause's number, 1 to 6.
     pub fn number(&self) -> u32
         ensures { result ≡ number_of self.now }
     {
-        match *self {
-            Cause::TooLong => 1,
-            Cause::NotOfForm => 2,
-            Cause::OutOfRange => 3,
-            Cause::FromMode => 4,
-            Cause::Short => 5,
-            Cause::Excess => 6,
-        }
+        *self as u32
     }
 }
 
-// A fault and the line of the file where it shows. Lines count from 1.
-#[derive(Clone, Copy, Debug)]
+impl fmt::Display for Cause {
+    ghost output = { λ cause. Some (cause_text cause) };
+
+    fn fmt<W: fmt::Write>(&self, f: &mut fmt::Formatter<W>) -> fmt::Result {
+        write!(f, "reading {}", self.number())
+    }
+}
+
+impl Error for Cause {}
+
+/// A fault and the line of the file where it shows. Lines count from 1; a file that is too long shows it at 0.
+#[derive(Clone, Copy, Debug, PartialEq, Eq)]
 pub struct At<F> {
     pub fault: F,
     pub line: u32,
 }
 
-// A lock that is declined: why, and which of the file's locks it is.
-#[derive(Clone, Copy, Debug)]
+impl<F: fmt::Display> fmt::Display for At<F> {
+    ghost output = { λ at. option_map (λ text. with_line text at.line) (F.output at.fault) };
+
+    fn fmt<W: fmt::Write>(&self, f: &mut fmt::Formatter<W>) -> fmt::Result {
+        let At { fault, line } = self;
+        write!(f, "{fault} line {line}")
+    }
+}
+
+impl<F: Error + Copy> Error for At<F> {}
+
+/// A lock that is declined: why, and which of the file's locks it is.
+#[derive(Clone, Copy, Debug, PartialEq, Eq)]
 pub struct DeclinedLock {
     pub fault: LockFault,
     pub lock: u32,
 }
 
-// The text is refused, or memory is wanting.
-#[derive(Clone, Copy, Debug)]
+impl fmt::Display for DeclinedLock {
+    ghost output = { λ declined. Some (declined_text declined) };
+
+    fn fmt<W: fmt::Write>(&self, f: &mut fmt::Formatter<W>) -> fmt::Result {
+        let DeclinedLock { fault, lock } = self;
+        write!(f, "{fault} lock {lock}")
+    }
+}
+
+impl Error for DeclinedLock {}
+
+/// The text is refused, or memory is wanting.
+#[derive(Clone, Copy, Debug, PartialEq, Eq)]
 pub enum ReadFault {
     Slip(At<Cause>),
     NoMemory,
 }
+
+impl fmt::Display for ReadFault {
+    ghost output = { λ fault. Some (read_text fault) };
+
+    fn fmt<W: fmt::Write>(&self, f: &mut fmt::Formatter<W>) -> fmt::Result {
+        match self {
+            ReadFault::Slip(at) => write!(f, "{at}"),
+            ReadFault::NoMemory => write!(f, "out of memory"),
+        }
+    }
+}
+
+impl Error for ReadFault {}
 
 impl From<AllocError> for ReadFault {
     ghost from_gives = { λ _ r. r ≡ NoMemory };
@@ -62,15 +111,30 @@ impl From<AllocError> for ReadFault {
     }
 }
 
-// Why no chart is loaded from a file: the slip in its text, or the fault of its chart or of one of its locks, each with
-// its line; or memory is wanting.
-#[derive(Clone, Copy, Debug)]
+/// Why no chart is loaded from a file: the slip in its text, or the fault of its chart or of one of its locks, each with
+/// its line; or memory is wanting.
+#[derive(Clone, Copy, Debug, PartialEq, Eq)]
 pub enum LoadFault {
     Reading(At<Cause>),
     Chart(At<ChartFault>),
     Lock(At<DeclinedLock>),
     NoMemory,
 }
+
+impl fmt::Display for LoadFault {
+    ghost output = { λ fault. Some (load_text fault) };
+
+    fn fmt<W: fmt::Write>(&self, f: &mut fmt::Formatter<W>) -> fmt::Result {
+        match self {
+            LoadFault::Reading(at) => write!(f, "fault {at}"),
+            LoadFault::Chart(at) => write!(f, "fault {at}"),
+            LoadFault::Lock(at) => write!(f, "fault {at}"),
+            LoadFault::NoMemory => write!(f, "out of memory"),
+        }
+    }
+}
+
+impl Error for LoadFault {}
 
 impl From<ReadFault> for LoadFault {
     ghost from_gives = { λ e r. r ≡ passed_on e };

@@ -1,4 +1,4 @@
-// The reader: from a chart file's bytes to what the file says, or to the first slip in it.
+//! The reader: from a chart file's bytes to what the file says, or to the first slip in it.
 #![tactic(auto)]
 
 pub mod content;

@@ -1,9 +1,9 @@
-// What is loaded from a chart file.
+//! What is loaded from a chart file.
 use crate::content::Question;
 use charts::lock::LockChart;
 use charts::table::TableChart;
 
-// The modes' names, the chart with its locks, the questions, and how many exit and lock lines the file has.
+/// The modes' names, the chart with its locks, the questions, and how many exit and lock lines the file has.
 #[derive(Drop)]
 pub struct Loaded {
     pub names: Vec<String>,

@@ -1,124 +1,89 @@
-// A section of a file: its count on a line, then a line for each row.
-ghost use Rattle.std.specs.Prelude.{◌≡◌, ℕ, ◌+◌, ◌<◌, List, map, length, MatchResult};
-ghost use Rattle.reader.specs.Faults.{Refusing};
+//! The lines of a file, and its sections: a count on a line, then a line for each row.
+ghost use Rattle.std.specs.Prelude.{◌≡◌, ℕ, ◌+◌, ◌≤◌, [], map, length, MatchResult};
+ghost use Rattle.reader.specs.declared.fault.Cause.TheVariants.{Short};
+ghost use Rattle.reader.specs.Faults.{RefusedOn, RefusedFrom};
+ghost use Rattle.reader.specs.Lines.{Cut, Free};
 ghost use Rattle.reader.specs.Sections.{count_form, LineRead, LineRefused, RowsRead, RowsRefused, SectionRead, SectionRefused};
 
 use crate::fault::{At, Cause, ReadFault};
 use crate::row::Row;
 use crate::text::{cut, number};
-use std::alloc::Global;
+use std::alloc::{AllocError, Global};
 
-// The refusal of a line.
-pub(crate) fn refused(fault: Cause, line: u32) -> ReadFault
-    ensures { result ≡ ReadFault.Slip (record { fault = fault; line = line }) }
-{
-    ReadFault::Slip(At { fault, line })
-}
-
-// The count on the first line, from `least` to `most`, and what follows the line.
-fn read_count<'a>(
-    bytes: &'a [u8],
-    least: u32,
-    most: u32,
-    line: u32,
-) -> Result<(u32, &'a [u8]), ReadFault>
-    ensures { MatchResult result (λ p. LineRead (count_form least most) 0 List.[] bytes.now p.0 p.1.now) (λ e. Refusing e (λ c at. (at ≡ line) × LineRefused (count_form least most) 0 List.[] bytes.now c)) }
-{
-    let Some((text, rest)) = cut(bytes, b'\n') else {
-        return Err(refused(Cause::Short, line));
-    };
-    let Some(count) = number(text) else {
-        return Err(refused(Cause::NotOfForm, line));
-    };
-    if count < least || count > most {
-        return Err(refused(Cause::OutOfRange, line));
-    }
-    Ok((count, rest))
-}
-
-// The row on the first line, after the rows before it, and what follows the line.
-fn read_row<'a, T: Row>(
-    heap: Global,
-    bytes: &'a [u8],
-    modes: u32,
-    before: &[T],
-    line: u32,
-) -> Result<(T, &'a [u8]), ReadFault>
-    ensures { MatchResult result (λ p. LineRead T.Row.form modes (map T.Row.told before.now) bytes.now (T.Row.told p.0) p.1.now) (λ e. Refusing e (λ c at. (at ≡ line) × LineRefused T.Row.form modes (map T.Row.told before.now) bytes.now c)) }
-{
-    let Some((text, rest)) = cut(bytes, b'\n') else {
-        return Err(refused(Cause::Short, line));
-    };
-    let Some(row) = T::read(heap, text)? else {
-        return Err(refused(Cause::NotOfForm, line));
-    };
-    match row.slip(modes, before) {
-        Some(cause) => Err(refused(cause, line)),
-        None => Ok((row, rest)),
-    }
-}
-
-// The next `count` rows, the first of them on the line `first`, and what follows them.
-fn read_rows<'a, T: Row>(
-    heap: Global,
-    bytes: &'a [u8],
-    modes: u32,
-    count: u32,
-    first: u32,
-) -> Result<(Vec<T>, &'a [u8]), ReadFault>
-    requires { first + count < 10000 }
-    ensures { MatchResult result (λ p. RowsRead T.Row.form modes count bytes.now (map T.Row.told p.0.items) p.1.now) (λ e. Refusing e (λ c at. (k : ℕ) × (at ≡ first + k) × RowsRefused T.Row.form modes count bytes.now c k)) }
-{
-    let mut rows = Vec::new(heap);
-    let mut rest = bytes;
-    for i in 0..count {
-        match read_row(heap, rest, modes, &rows, first + i) {
-            Ok((row, after)) => {
-                if rows.push(row).is_err() {
-                    return Err(ReadFault::NoMemory);
-                }
-                rest = after;
-            }
-            Err(fault) => return Err(fault),
-        }
-    }
-    Ok((rows, rest))
-}
-
-// A section that was read: its rows and how many they are, what follows it, and the line on which that begins.
+/// What is left to read of a file, and the line on which it begins. A line takes a byte at least, so the lines of a file are no
+/// more than its bytes.
+// The allocator is passed to what allocates, as it is to std's own functions, and is no field.
 #[derive(Drop)]
-pub(crate) struct Section<'a, T> {
-    pub rows: Vec<T>,
-    pub count: u32,
+pub(crate) struct Lines<'a> {
     pub rest: &'a [u8],
-    pub next: u32,
+    pub line: u32,
+    ghost short: { line + length rest.now ≤ 16385 },
 }
 
-// The section of `least` to `most` rows whose count stands on the line `first`.
-pub(crate) fn read_section<'a, T: Row>(
-    heap: Global,
-    bytes: &'a [u8],
-    modes: u32,
-    least: u32,
-    most: u32,
-    first: u32,
-) -> Result<Section<'a, T>, ReadFault>
-    requires { first + most < 9000 }
-    ensures { MatchResult result (λ s. SectionRead T.Row.form modes least most bytes.now (map T.Row.told s.rows.items) s.rest.now × (s.count ≡ length (map T.Row.told s.rows.items)) × (s.next ≡ first + 1 + s.count)) (λ e. Refusing e (λ c at. (k : ℕ) × (at ≡ first + k) × SectionRefused T.Row.form modes least most bytes.now c k)) }
-{
-    match read_count(bytes, least, most, first) {
-        Ok((count, rest)) => match read_rows(heap, rest, modes, count, first + 1) {
-            Ok((rows, rest)) => {
-                let next = first + 1 + count;
-                Ok(Section {
-                    rows,
-                    count,
-                    rest,
-                    next,
-                })
-            }
-            Err(fault) => Err(fault),
-        },
-        Err(fault) => Err(fault),
+impl<'a> Lines<'a> {
+    /// The refusal of the next line.
+    pub(crate) fn refused(&self, fault: Cause) -> ReadFault
+        ensures { result ≡ ReadFault.Slip (record { fault = fault; line = self.now.line }) }
+    {
+        ReadFault::Slip(At {
+            fault,
+            line: self.line,
+        })
+    }
+
+    /// The text of the next line, and the lines behind it.
+    fn split_first(&self) -> Result<(&'a [u8], Lines<'a>), ReadFault>
+        ensures { MatchResult result (λ p. Cut 10 self.now.rest.now p.0.now p.1.rest.now × (p.1.line ≡ self.now.line + 1)) (λ e. RefusedOn e self.now.line (λ c. (c ≡ Short) × Free 10 self.now.rest.now)) }
+    {
+        let (text, rest) = cut(self.rest, b'\n').ok_or(self.refused(Cause::Short))?;
+        let line = self.line + 1;
+        Ok((text, Lines { rest, line }))
+    }
+
+    /// The count on the next line, which fits a section of such rows.
+    // Counts are no rows of their own: with a type for them, and the rows that it counts as its parameter, this would be longer.
+    fn count<T: Row>(&mut self) -> Result<u32, ReadFault>
+        ensures { MatchResult result (λ n. LineRead (count_form T.LEAST T.MOST) 0 [] self.old.rest.now n self.new.rest.now × (self.new.line ≡ self.old.line + 1)) (λ e. RefusedOn e self.old.line (LineRefused (count_form T.LEAST T.MOST) 0 [] self.old.rest.now)) }
+    {
+        let (text, behind) = self.split_first()?;
+        let count = number(text).ok_or(self.refused(Cause::NotOfForm))?;
+        if count < T::LEAST || count > T::MOST {
+            return Err(self.refused(Cause::OutOfRange));
+        }
+        *self = behind;
+        Ok(count)
+    }
+
+    /// The row on the next line, after the rows before it.
+    fn row<T: Row>(&mut self, heap: Global, modes: u32, before: &[T]) -> Result<T, ReadFault>
+        ensures { MatchResult result (λ x. LineRead T.form modes (map T.told before.now) self.old.rest.now (T.told x) self.new.rest.now × (self.new.line ≡ self.old.line + 1)) (λ e. RefusedOn e self.old.line (LineRefused T.form modes (map T.told before.now) self.old.rest.now)) }
+    {
+        let (text, behind) = self.split_first()?;
+        let row = T::read(heap, text)?.ok_or(self.refused(Cause::NotOfForm))?;
+        if let Err(cause) = row.check(modes, before) {
+            return Err(self.refused(cause));
+        }
+        *self = behind;
+        Ok(row)
+    }
+
+    /// The rows on the next `count` lines.
+    fn rows<T: Row>(&mut self, heap: Global, modes: u32, count: u32) -> Result<Vec<T>, ReadFault>
+        ensures { MatchResult result (λ v. RowsRead T.form modes count self.old.rest.now (map T.told v.items) self.new.rest.now × (self.new.line ≡ self.old.line + count)) (λ e. RefusedFrom e self.old.line (RowsRefused T.form modes count self.old.rest.now)) }
+    {
+        let mut rows = Vec::new(heap);
+        for _ in 0..count {
+            let row = self.row(heap, modes, &rows)?;
+            rows.push(row).map_err(AllocError::from)?;
+        }
+        Ok(rows)
+    }
+
+    /// The rows of the next section, in a file of so many modes.
+    pub(crate) fn section<T: Row>(&mut self, heap: Global, modes: u32) -> Result<Vec<T>, ReadFault>
+        ensures { MatchResult result (λ v. SectionRead T.form modes T.LEAST T.MOST self.old.rest.now (map T.told v.items) self.new.rest.now × (self.new.line ≡ self.old.line + 1 + length (map T.told v.items))) (λ e. RefusedFrom e self.old.line (SectionRefused T.form modes T.LEAST T.MOST self.old.rest.now)) }
+    {
+        let count = self.count::<T>()?;
+        self.rows(heap, modes, count)
     }
 }

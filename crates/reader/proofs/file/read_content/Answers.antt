@@ -1,14 +1,8 @@
-use Rattle.reader.proofs.Files.{answer_text, answer_ranges, answer_refusal, answer_exactly}
+use Rattle.reader.proofs.Files.{answer_refusal, answer_exactly}
 use Rattle.reader.proofs.file.read_content.Goals as goal
 
-pub returns : goal.returns
-returns c =
-    let bytes = c.args.bytes.now in
-    let r = c.read_sections.result in
-    let read = c.read_sections.ensures in
-    record {
-      text = answer_text bytes r read;
-      ranges = answer_ranges bytes r c.if-bytes-gt-MOST_BYTES.false read;
-      refusal = answer_refusal bytes r c.if-bytes-gt-MOST_BYTES.false read;
-      exactly = answer_exactly bytes r read;
-    }
+pub returns-clause-refusal : goal.returns-clause-refusal
+returns-clause-refusal c = answer_refusal c.args.bytes.now c.read_sections.result c.if-bytes-gt-MOST_BYTES.false c.read_sections.ensures
+
+pub returns-clause-exactly : goal.returns-clause-exactly
+returns-clause-exactly c = answer_exactly c.args.bytes.now c.read_sections.result c.read_sections.ensures

@@ -1,11 +1,11 @@
-use Rattle.std.proofs.Common.{sym, ap, ◌∙◌, arith}
-use Rattle.reader.proofs.Exits.{last_is, last_none}
+use Rattle.std.proofs.Common.{◌≡◌, ℕ, Some, None, Option, MatchOption, Bor, rules}
+use Rattle.reader.specs.declared.content.ExitLine.{ExitLine}
+use Rattle.reader.proofs.Exits.{last_read}
 use Rattle.reader.proofs.row.last_from.Goals as goal
 
-pub returns-in-Some : goal.returns-in-Some
-returns-in-Some c =
-    let found = c.in-Some.ensures.item in
-    ap (λ x. x.from) found.1 ∙ sym (last_is _ _ found.3.0)
+told : (o : Option (Bor ExitLine)) (r : ℕ) (Q : Bor ExitLine → Type 0) → MatchOption o (r ≡ 0) Q → ((x : Bor ExitLine) → Q x → r ≡ x.now.from) → MatchOption o (r ≡ 0) (λ x. r ≡ x.now.from)
+told None r Q h f = h
+told (Some x) r Q h f = f x h
 
-pub returns-in-None : goal.returns-in-None
-returns-in-None c = let none = c.in-None.ensures.item.3 in sym (last_none c.args.before.now (omega arith))
+pub returns : goal.returns
+returns c = last_read c.args.before.now c.last.result c.map_or.result c.last.ensures.value (told _ _ _ c.map_or.ensures (λ x q. search rules))

@@ -1,14 +1,9 @@
-use Rattle.std.proofs.Common.{◌≤◌, length, arith}
-use Rattle.std.proofs.ByRecursion.{All-more}
-use Rattle.std.proofs.lemmas.List.{take_all}
+use Rattle.std.proofs.Common.{◌≢◌, ◌≡◌, rules, tests}
+use Rattle.std.proofs.lemmas.Iterator.{IsFirst-from_position, YieldsList-from_slice}
 use Rattle.reader.proofs.Cuts.{cut_found}
 use Rattle.reader.proofs.text.cut.Goals as goal
 
-pub returns-then-b-mark : goal.returns-then-b-mark
-returns-then-b-mark c = cut_found c.args.mark c.args.bytes.now c.loop-i.i (omega arith) c.if-b-mark.true c.loop-i.invariant
-
-pub loop-i-preserved : goal.loop-i-preserved
-loop-i-preserved c = All-more _ c.args.bytes.now c.loop-i.i 0 (omega arith) c.loop-i.invariant c.if-b-mark.false
-
 pub returns : goal.returns
-returns c = let l : length c.args.bytes.now ≤ c.loop-i.i = omega arith in rw take_all at c.loop-i.invariant
+returns c =
+    cut_found c.args.mark c.args.bytes.now c.in_ok-at.at
+    (IsFirst-from_position _ _ _ (λ b. b ≡ c.args.mark) (λ b. b ≢ c.args.mark) c.in_ok-at.ensures.ran (YieldsList-from_slice c.args.bytes.now cc) (λ x q k. search (rules, tests)) (λ x q k. search (rules, tests)))
