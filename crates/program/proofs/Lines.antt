@@ -6,6 +6,6 @@ use Rattle.reader.specs.Rows.{question_told}
 use Rattle.program.specs.Report.{question_line, question_lines}
 
 -- one question more
-pub lines_more : (names : List (List ℕ)) (qs : List Question) (i : ℕ) (d : Question) (front line : List ℕ) → i < length qs → line ≡ question_line names i (question_told (get_or qs i d)) → (front ++ line) ++ question_lines names (i + 1) (map question_told (drop (i + 1) qs)) ≡ front ++ question_lines names i (map question_told (drop i qs))
-lines_more names qs i d front line within is =
-    append_assoc front line _ ∙ ap (λ l. front ++ (l ++ question_lines names (i + 1) (map question_told (drop (i + 1) qs)))) is ∙ sym (ap (λ rest. front ++ question_lines names i (map question_told rest)) (drop_more qs i d within))
+pub lines_more : (names : List (List ℕ)) (qs : List Question) (i : ℕ) (d : Question) (front : List ℕ) → i < length qs → (front ++ question_line names i (question_told (get_or qs i d))) ++ question_lines names (i + 1) (map question_told (drop (i + 1) qs)) ≡ front ++ question_lines names i (map question_told (drop i qs))
+lines_more names qs i d front within =
+    append_assoc front _ _ ∙ sym (ap (λ rest. front ++ question_lines names i (map question_told rest)) (drop_more qs i d within))

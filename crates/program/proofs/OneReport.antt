@@ -1,5 +1,6 @@
 -- Bytes have one report.
 use Rattle.std.proofs.Common.{◌≡◌, ℕ, ◌⊎◌, List, length, Some, Err, vec_items, sym, ap, ◌∙◌, inl, inr, arith}
+use Rattle.std.proofs.lemmas.Option.{none-some}
 use mathlib.Core.Path.{transport}
 use Rattle.charts.specs.Faults.{lock_number}
 use Rattle.reader.specs.Faults.{number_of}
@@ -34,7 +35,7 @@ fault_ending bytes text (Lock at) h is =
     let d = at.fault in
     let t : text ≡ lock_line (lock_number d.fault) d.lock at.line = cc in
     inr (h.0, h.1, no_lock d.lock d.fault h.2.0 h.2.1 (t ∙ ap (lock_line (lock_number d.fault) d.lock) h.2.2))
-fault_ending bytes text NoMemory h is = let z : ◌≡◌ {A = ℕ} 0 1 = cc in absurd (omega arith)
+fault_ending bytes text NoMemory h is = absurd (none-some text is)
 
 ending : (bytes text : List ℕ) → Reported bytes text → Ending bytes text
 ending bytes text (inl h) = inr (h.0, h.1, well h.2.0 h.2.1 h.3)
@@ -42,11 +43,7 @@ ending bytes text (inr h) = fault_ending bytes text h.0 h.1 h.2
 
 -- the text of a content is not refused
 unrefused : (bytes : List ℕ) (c : Content) (cause : Cause) (line : ℕ) → Says bytes c → Refused bytes cause line → ⊥
-unrefused bytes c cause line says (inl h) =
-    let long = h.0 in
-    let few = says.1.0 in
-    let same = ap length says.0 in
-    omega arith
+unrefused bytes c cause line says (inl h) = omega (arith, h.0, says.1.0, ap length says.0)
 unrefused bytes c cause line says (inr h) =
     let e = answer_exactly bytes (Err (reading.Slip (record { fault = cause; line = line }))) h.1 (told c) says.0 says.1 in
     let z : ◌≡◌ {A = ℕ} 0 1 = cc in

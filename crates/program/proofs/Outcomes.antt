@@ -1,5 +1,6 @@
 -- What is reported on a file that reads well, from its modes, exit lines and lock lines: one text.
-use Rattle.std.proofs.Common.{◌≡◌, ℕ, ◌+◌, List, [], map, length, Some, None, Option, sym, ap, ◌∙◌, arith}
+use Rattle.std.proofs.Common.{◌≡◌, ℕ, ◌+◌, List, [], map, length, Some, None, Option, sym, ap, ◌∙◌}
+use Rattle.std.proofs.lemmas.Option.{none-some}
 use Rattle.charts.specs.Faults.{lock_number}
 use Rattle.charts.specs.Meaning.{Meaning}
 use Rattle.charts.specs.Tables.{table_meaning, AnswerOfTable}
@@ -29,10 +30,7 @@ pub data Outcome (modes : ℕ) (exits : List ExitLine) (locks : List LockLine) (
 module _ (modes : ℕ) (exits : List ExitLine) where
   -- a table is not both sound and refused
   not_both : (f : ChartFault) → Laid modes exits None → Laid modes exits (Some f) → ⊥
-  not_both f sound bad =
-      let e : None ≡ Some f = bad.1 None sound.0 in
-      let z : ◌≡◌ {A = ℕ} 0 1 = cc in
-      omega arith
+  not_both f sound bad = none-some f (bad.1 None sound.0)
 
   one_fault : (f g : ChartFault) → Laid modes exits (Some f) → Laid modes exits (Some g) → f ≡ g
   one_fault f g bad other = let e : Some f ≡ Some g = other.1 (Some f) bad.0 in cc

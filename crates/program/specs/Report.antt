@@ -1,30 +1,34 @@
 -- The report on a chart file, byte by byte.
-use Rattle.std.specs.Prelude.{◌≡◌, ℕ, ◌+◌, ◌⊎◌, List, [], ◌∷◌, ◌++◌, map, length, Some, None, vec_items, vec_len, string_bytes, codes, decimal, Option}
+use Rattle.std.specs.Prelude.{◌≡◌, ℕ, ◌+◌, ◌⊎◌, List, [], ◌∷◌, ◌++◌, map, length, Some, None, vec_items, vec_len, string_bytes, codes, decimal, Option, Result, Ok, Err}
 use Rattle.std.specs.List.{slice_get}
-use Rattle.charts.specs.Faults.{chart_number, lock_number}
+use Rattle.charts.specs.Faults.{chart_number, chart_place_text, lock_number}
 use Rattle.charts.specs.declared.fault.ChartFault.{ChartFault}
-use Rattle.charts.specs.declared.fault.ChartFault.TheVariants.{OffsetCount, BadOffset, UnknownTarget}
 use Rattle.reader.specs.Faults.{number_of}
 use Rattle.reader.specs.File.{File, told}
 use Rattle.reader.specs.Layout.{AllSet}
 use Rattle.reader.specs.Loading.{Says, SoundExits, open_chart, NotLoaded}
-use Rattle.reader.specs.Rows.{Asked, question_told}
+use Rattle.reader.specs.Rows.{Asked, question_told, letter_text}
 use Rattle.reader.specs.declared.content.Content.{Content}
 use Rattle.reader.specs.declared.loaded.Loaded.{Loaded}
 use Rattle.reader.specs.declared.content.Letter.{Letter}
-use Rattle.reader.specs.declared.content.Letter.TheVariants.{Dwell, FaultsFirst}
 use Rattle.reader.specs.declared.fault.LoadFault.{LoadFault}
 use Rattle.reader.specs.declared.fault.LoadFault.TheVariants.{Reading, Chart, Lock, NoMemory}
+use Rattle.program.specs.declared.page.QuestionFault.{QuestionFault}
+use Rattle.program.specs.declared.page.QuestionFault.TheVariants.{UnknownStart, UnknownWatched}
 
 -- the first line on a file that reads well: how many modes, exit lines, lock lines and questions it has
 abbrev pub heading : (modes exits locks questions : ℕ) → List ℕ
 heading modes exits locks questions =
     codes "chart " ++ (decimal modes ++ (codes " modes " ++ (decimal exits ++ (codes " exits " ++ (decimal locks ++ (codes " locks " ++ (decimal questions ++ codes " questions\n")))))))
 
--- the letter of a measure
-abbrev pub letter_text : Letter → List ℕ
-letter_text Dwell = codes "d"
-letter_text FaultsFirst = codes "f"
+-- the number of a question's fault
+abbrev pub question_fault_number : QuestionFault → ℕ
+question_fault_number UnknownStart = 30
+question_fault_number UnknownWatched = 31
+
+-- a question's fault
+abbrev pub question_fault_text : QuestionFault → List ℕ
+question_fault_text fault = codes "lister " ++ decimal (question_fault_number fault)
 
 -- a fault of question i, in place of its line
 abbrev pub lister_fault : (number i : ℕ) → List ℕ
@@ -35,13 +39,18 @@ abbrev pub named_question : (i : ℕ) → List ℕ → List ℕ → Letter → L
 named_question i start watched letter =
     codes "question " ++ (decimal i ++ (codes " " ++ (start ++ (codes " " ++ (watched ++ (codes " " ++ (letter_text letter ++ codes "\n")))))))
 
--- what is said of question i: 30 where its start is no mode, 31 where its watched is none, else its line
+-- the names of the modes that a question leads from and to, or the fault of the first that is no mode
+abbrev pub question_ends : List (List ℕ) → Asked → Result (List ℕ × List ℕ) QuestionFault
+question_ends names q =
+    elim (slice_get names q.start) [
+      | None ↦ Err UnknownStart
+      | Some start ↦ elim (slice_get names q.watched) [ None ↦ Err UnknownWatched | Some watched ↦ Ok (start, watched) ]
+    ]
+
+-- what is said of question i: its line, or the fault in its place
 abbrev pub question_line : List (List ℕ) → (i : ℕ) → Asked → List ℕ
 question_line names i q =
-    elim (slice_get names q.start) [
-      | None ↦ lister_fault 30 i
-      | Some start ↦ elim (slice_get names q.watched) [ None ↦ lister_fault 31 i | Some watched ↦ named_question i start watched q.letter ]
-    ]
+    elim (question_ends names q) [ Ok ends ↦ named_question i ends.0 ends.1 q.letter | Err fault ↦ lister_fault (question_fault_number fault) i ]
 
 -- the lines of the questions from question i on
 abbrev pub question_lines : List (List ℕ) → (i : ℕ) → List Asked → List ℕ
@@ -56,12 +65,6 @@ page f = heading (length f.names) (length f.exits) (length f.locks) (length f.qu
 abbrev pub loaded_page : Loaded → List ℕ
 loaded_page l =
     heading (vec_len l.names) l.exit_lines l.lock_lines (vec_len l.questions) ++ question_lines (map string_bytes (vec_items l.names)) 0 (map question_told (vec_items l.questions))
-
--- the place of a chart's fault, by its word
-abbrev pub chart_place_text : ChartFault → List ℕ
-chart_place_text OffsetCount = []
-chart_place_text (BadOffset i) = codes " offset " ++ decimal i
-chart_place_text (UnknownTarget j) = codes " entry " ++ decimal j
 
 -- the three lines on a file that is refused: layer, number, place and line
 abbrev pub reading_line : (number line : ℕ) → List ℕ

@@ -1,110 +1,109 @@
-// The report on a file that reads well.
-ghost use Rattle.std.specs.Prelude.{◌≡◌, map, IfOk, vec_len, string_bytes};
-ghost use Rattle.std.specs.Option.{option_map};
+//! The report on a file that reads well.
+ghost use Rattle.std.specs.Prelude.{◌≡◌, map, Some, vec_len, string_bytes};
 ghost use Rattle.std.specs.List.{slice_get};
+ghost use Rattle.std.specs.Option.{option_map};
+ghost use Rattle.std.specs.Result.{result_map_both};
 ghost use Rattle.reader.specs.Rows.{question_told};
-ghost use Rattle.program.specs.Report.{letter_text, lister_fault, named_question, question_line, question_lines, heading, loaded_page};
+ghost use Rattle.program.specs.Report.{question_fault_number, question_fault_text, question_ends, question_line, loaded_page};
 
-use reader::content::{Letter, Question};
+use reader::content::Question;
 use reader::loaded::Loaded;
-use std::alloc::{AllocError, Global};
+use std::fmt;
 
-fn letter_text(letter: Letter) -> &'static str
-    ensures { result.now ≡ letter_text letter }
-{
-    match letter {
-        Letter::Dwell => "d",
-        Letter::FaultsFirst => "f",
+/// Why a question has no line of its own. The discriminant is the fault's number.
+#[derive(Clone, Copy, Debug, PartialEq, Eq)]
+enum QuestionFault {
+    UnknownStart = 30,
+    UnknownWatched = 31,
+}
+
+impl QuestionFault {
+    fn number(self) -> u32
+        ensures { result ≡ question_fault_number self }
+    {
+        self as u32
     }
 }
 
-fn lister_fault(heap: Global, number: u32, question: usize) -> Result<String, AllocError>
-    ensures { IfOk result (λ t. string_bytes t ≡ lister_fault number question) }
-{
-    format!(in heap; "fault lister {number} question {question}\n")
-}
+impl fmt::Display for QuestionFault {
+    ghost output = { λ fault. Some (question_fault_text fault) };
 
-// The name of a mode, if it is one.
-fn name_of(names: &[String], mode: u32) -> Option<&str>
-    ensures { option_map (λ n. n.now) result ≡ slice_get (map string_bytes names.now) mode }
-{
-    match names.get(mode as usize) {
-        Some(name) => Some(name.as_str()),
-        None => None,
+    fn fmt<W: fmt::Write>(&self, f: &mut fmt::Formatter<W>) -> fmt::Result {
+        write!(f, "lister {}", self.number())
     }
 }
 
-fn named_question(
-    heap: Global,
-    number: usize,
-    start: &str,
-    watched: &str,
-    letter: Letter,
-) -> Result<String, AllocError>
-    ensures { IfOk result (λ t. string_bytes t ≡ named_question number start.now watched.now letter) }
-{
-    let letter = letter_text(letter);
-    format!(in heap; "question {number} {start} {watched} {letter}\n")
-}
-
-fn question_line(
-    heap: Global,
-    names: &[String],
+/// A question of a file: its number there, and the names of the file's modes.
+#[derive(Clone, Copy)]
+struct QuestionLine<'a> {
+    names: &'a [String],
     number: usize,
     question: Question,
-) -> Result<String, AllocError>
-    ensures { IfOk result (λ t. string_bytes t ≡ question_line (map string_bytes names.now) number (question_told question)) }
-{
-    let Some(start) = name_of(names, question.start) else {
-        return lister_fault(heap, 30, number);
-    };
-    let Some(watched) = name_of(names, question.watched) else {
-        return lister_fault(heap, 31, number);
-    };
-    named_question(heap, number, start, watched, question.letter)
 }
 
-fn question_lines(
-    heap: Global,
-    names: &[String],
-    questions: &[Question],
-) -> Result<String, AllocError>
-    ensures { IfOk result (λ t. string_bytes t ≡ question_lines (map string_bytes names.now) 0 (map question_told questions.now)) }
-{
-    let mut lines = String::new(heap);
-    let mut number = 0;
-    for question in questions {
-        let line = question_line(heap, names, number, *question)?;
-        lines.push_str(line.as_str())?;
-        number += 1;
+impl<'a> QuestionLine<'a> {
+    /// The name of a mode, if it is one.
+    fn name(&self, mode: u32) -> Option<&'a str>
+        ensures { option_map (λ n. n.now) result ≡ slice_get (map string_bytes self.now.names.now) mode }
+    {
+        self.names.get(mode as usize).map(String::as_str)
     }
-    Ok(lines)
+
+    /// The names of start and watched; the fault of the first of them that is no mode.
+    fn ends(&self) -> Result<(&'a str, &'a str), QuestionFault>
+        ensures { result_map_both (λ ends. (ends.0.now, ends.1.now)) (λ fault. fault) result ≡ question_ends (map string_bytes self.now.names.now) (question_told self.now.question) }
+    {
+        let start = self
+            .name(self.question.start)
+            .ok_or(QuestionFault::UnknownStart)?;
+        let watched = self
+            .name(self.question.watched)
+            .ok_or(QuestionFault::UnknownWatched)?;
+        Ok((start, watched))
+    }
 }
 
-fn heading(
-    heap: Global,
-    modes: usize,
-    exits: u32,
-    locks: u32,
-    questions: usize,
-) -> Result<String, AllocError>
-    ensures { IfOk result (λ t. string_bytes t ≡ heading modes exits locks questions) }
-{
-    format!(in heap; "chart {modes} modes {exits} exits {locks} locks {questions} questions\n")
+impl fmt::Display for QuestionLine<'_> {
+    ghost output = { λ l. Some (question_line (map string_bytes l.names.now) l.number (question_told l.question)) };
+
+    fn fmt<W: fmt::Write>(&self, f: &mut fmt::Formatter<W>) -> fmt::Result {
+        let number = self.number;
+        match self.ends() {
+            Ok((start, watched)) => writeln!(
+                f,
+                "question {number} {start} {watched} {}",
+                self.question.letter
+            ),
+            Err(fault) => writeln!(f, "fault {fault} question {number}"),
+        }
+    }
 }
 
-// The counts of the file, and its questions.
-pub(crate) fn page(heap: Global, loaded: &Loaded) -> Result<String, AllocError>
-    ensures { IfOk result (λ t. string_bytes t ≡ loaded_page loaded.now) }
-{
-    let mut text = heading(
-        heap,
-        loaded.names.len(),
-        loaded.exit_lines,
-        loaded.lock_lines,
-        loaded.questions.len(),
-    )?;
-    let lines = question_lines(heap, &loaded.names, &loaded.questions)?;
-    text.push_str(lines.as_str())?;
-    Ok(text)
+/// The counts of the file, and its questions, which are numbered from 0.
+#[derive(Clone, Copy)]
+pub(crate) struct Page<'a>(pub(crate) &'a Loaded);
+
+impl fmt::Display for Page<'_> {
+    ghost output = { λ p. Some (loaded_page p.0.now) };
+
+    fn fmt<W: fmt::Write>(&self, f: &mut fmt::Formatter<W>) -> fmt::Result {
+        let Page(loaded) = self;
+        writeln!(
+            f,
+            "chart {} modes {} exits {} locks {} questions",
+            loaded.names.len(),
+            loaded.exit_lines,
+            loaded.lock_lines,
+            loaded.questions.len(),
+        )?;
+        for (number, question) in loaded.questions.iter().enumerate() {
+            let line = QuestionLine {
+                names: &loaded.names,
+                number,
+                question: *question,
+            };
+            write!(f, "{line}")?;
+        }
+        Ok(())
+    }
 }

@@ -12,7 +12,7 @@ only bytes text h = (h, λ other k. one_report bytes other text k h)
 pub returns-in-Ok : goal.returns-in-Ok
 returns-in-Ok c =
     let said = c.in-Ok.ensures.loaded in
-    record { reported = IfOk-weaker c.page.result _ _ (λ t h. only _ _ (inl (said.0, said.1, (said.2.sound, said.2.accepted), h ∙ loaded_is_page said.0 c.in-Ok.loaded said.2))) c.page.ensures }
+    record { reported = IfOk-weaker c.to_string.result _ _ (λ t h. only _ _ (inl (said.0, said.1, (said.2.sound, said.2.accepted), h ∙ loaded_is_page said.0 c.in-Ok.loaded said.2))) c.to_string.ensures.ok }
 
 pub returns-in-Err : goal.returns-in-Err
 returns-in-Err c =
