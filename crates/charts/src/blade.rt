@@ -26,7 +26,7 @@ const EVENTS: [Event; 4] = [Event::Hold, Event::Resume, Event::Feather, Event::F
 
 impl Event {
     /// The event of an exit.
-    // As `State::numbered`: one function over any array of four would be as long as both.
+    // As `State::numbered`, and no `From` for the same reason; one function over any array of four would be as long as both.
     fn of(exit: u32) -> Self
         ensures { result ≡ event_numbered (exit % 4) }
     {

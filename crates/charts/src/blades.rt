@@ -20,7 +20,7 @@ const STATES: [State; 4] = [
 ];
 
 impl State {
-    /// The state of a number, of which the remainder by 4 counts: so every number has one, and this is no `TryFrom`.
+    /// The state of a number, of which the remainder by 4 counts. (A `From` would hide that, and no number is refused.)
     fn numbered(number: u32) -> Self
         ensures { result ≡ state_numbered number }
     {

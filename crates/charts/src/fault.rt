@@ -1,6 +1,6 @@
 //! Why a table is no chart, and why a lock is declined.
-// The texts are written by hand: those of thiserror's derive have no contract, and a report rests on them. The text of each
-// enum is in its own crate, since Rust has no `impl` for all that have a number.
+// The texts are written by hand: those of thiserror's derive have no contract, and a report rests on them. Each enum
+// has its own, and its own `number`, since Rust has no `impl` for all enums.
 ghost use Rattle.std.specs.Prelude.{◌≡◌, Some};
 ghost use Rattle.charts.specs.Faults.{chart_number, chart_place, chart_text, lock_number, lock_text};
 

@@ -24,6 +24,7 @@ fn table(
 }
 
 /// The number and the place with which a table is refused.
+// Numbers, and not cases, here and below: the numbers are the rules', and a test of cases would not see one go wrong.
 fn refusal(made: Result<TableChart, RefusedTable>) -> Option<(u32, Option<u32>)> {
     made.err()
         .map(|refused| (refused.fault.number(), refused.fault.place()))

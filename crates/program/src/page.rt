@@ -11,6 +11,7 @@ use reader::loaded::Loaded;
 use std::fmt;
 
 /// Why a question has no line of its own. The discriminant is the fault's number.
+// Number and text as those of the other faults, each in the crate where it arises.
 #[derive(Clone, Copy, Debug, PartialEq, Eq)]
 enum QuestionFault {
     UnknownStart = 30,

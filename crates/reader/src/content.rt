@@ -51,7 +51,7 @@ pub struct ExitLine {
 }
 
 /// A lock line: the mode's exit of that number is locked.
-// Beside the `Lock` of charts, which is what a chart holds and no part of what charts offers.
+// Not the `Lock` of charts, which is what a chart holds and no part of what charts offers: one type would make it public.
 #[derive(Clone, Copy, Debug, PartialEq, Eq)]
 pub struct LockLine {
     pub mode: u32,

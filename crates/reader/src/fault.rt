@@ -1,6 +1,6 @@
 //! Why a file is refused.
 // Texts and conversions are written by hand: what thiserror's derives write has no contract, and a report rests on the texts and on
-// the errors that `?` makes.
+// the errors that `?` makes. Each enum has its own, and its own `number`, since Rust has no `impl` for all enums.
 ghost use Rattle.std.specs.Prelude.{◌≡◌, Some, option_map};
 ghost use Rattle.reader.specs.declared.fault.LoadFault.TheVariants.{Chart as OfChart, Lock as OfLock, NoMemory as OfMemory};
 ghost use Rattle.reader.specs.declared.fault.ReadFault.TheVariants.{NoMemory};

@@ -45,6 +45,7 @@ pub fn read_content(heap: Global, bytes: &[u8]) -> Result<Content, ReadFault>
     ensures refusal { IfErr result (λ e. Refusing e (λ c at. RefusedAs bytes.now c at)) }
     ensures exactly { (f : File) → file_text f ≡ bytes.now → InRanges f → MatchResult result (λ c. told c ≡ f) (λ e. e ≡ NoMemory) }
 {
+    // Not by `Lines`: a file that is too long is not read line by line.
     if bytes.len() > MOST_BYTES {
         return Err(ReadFault::Slip(At {
             fault: Cause::TooLong,

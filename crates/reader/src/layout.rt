@@ -98,6 +98,7 @@ pub(crate) fn set_locks<C: Chart>(
     ensures locks { MatchResult result (λ _. AllSet (C.Chart.means chart.old.below) (locks_of chart.old) locks.now × (locks_of chart.new ≡ set_all (locks_of chart.old) locks.now)) (λ e. Declined (C.Chart.means chart.old.below) (locks_of chart.old) locks.now e.fault.lock e.fault.fault × (e.line ≡ first + e.fault.lock)) }
 {
     for (number, line) in locks.iter().enumerate() {
+        // Not `map_err`, as above: its closure, which adds to a line, would need clauses of its own.
         if let Err(fault) = chart.lock(line.mode, line.exit) {
             let lock = number as u32;
             let fault = DeclinedLock { fault, lock };

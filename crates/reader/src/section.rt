@@ -12,7 +12,8 @@ use std::alloc::{AllocError, Global};
 
 /// What is left to read of a file, and the line on which it begins. A line takes a byte at least, so the lines of a file are no
 /// more than its bytes.
-// The allocator is passed to what allocates, as it is to std's own functions, and is no field.
+// The allocator is passed to what allocates, as it is to std's own functions, and the first section is read before the number of modes
+// is known: neither is a field.
 #[derive(Drop)]
 pub(crate) struct Lines<'a> {
     pub rest: &'a [u8],
@@ -60,6 +61,7 @@ impl<'a> Lines<'a> {
     {
         let (text, behind) = self.split_first()?;
         let row = T::read(heap, text)?.ok_or(self.refused(Cause::NotOfForm))?;
+        // Tried with `map_err` and `?`: that its closure answers the refusal of this line did not prove.
         if let Err(cause) = row.check(modes, before) {
             return Err(self.refused(cause));
         }
