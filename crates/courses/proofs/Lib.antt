@@ -4,6 +4,7 @@ pub mod Fronts
 pub mod Bounds
 pub mod Same
 pub mod Lists
+pub mod Pigeons
 pub mod Modes
 pub mod Direct
 pub mod Short

@@ -1,11 +1,13 @@
 -- What the laws of a measure give of rows of steps.
-use Rattle.std.proofs.Common.{◌≡◌, ◌+◌, ◌≤◌, true, List, [], ◌∷◌, ◌++◌, length, Some, Option, sym, refl, ap, ◌∙◌, ⊎_elim, arith, length-append}
+use Rattle.std.proofs.Common.{◌≡◌, ℕ, ◌+◌, ◌<◌, ◌≤◌, true, List, [], ◌∷◌, ◌++◌, length, get_or, drop, Some, Option, sym, refl, ap, ◌∙◌, ⊎_elim, arith, length-append}
+use Rattle.std.proofs.lemmas.List.{at_drop_more}
 use Rattle.std.proofs.lemmas.Bool.{cases_Bool}
 use Rattle.measures.specs.declared.step.Step.{Step}
 use Rattle.measures.specs.Bracketing.{Bracketing, one, both, count, steps, evaluated}
 use Rattle.measures.specs.Laws.{Laws, longest}
 use Rattle.measures.specs.Operations.{Operations}
 use Rattle.measures.specs.Rows.{row_from, row_value, RowsExist, RowsJoin, OneValue, FrontsKeep, EndsKeep, NothingLeast, JoinsGrow}
+use Rattle.std.specs.Option.{option_and_then}
 use Rattle.std.proofs.lemmas.Option.{same_Some}
 use Rattle.measures.specs.OptionLemmas.{and_then_some, and_then_parts}
 
@@ -21,6 +23,11 @@ count_behind t (s ∷ ss) = count_behind (both t (one s)) ss ∙ omega arith
 length_steps : (t : Bracketing) → length (steps t) ≡ count t
 length_steps (one s) = refl
 length_steps (both l r) = omega (arith, length-append (steps l) (steps r), length_steps l, length_steps r)
+
+-- one step more of a row that is read from the front
+pub row_more : {V : Type 0} (m : Operations V) (ss : List Step) (i : ℕ) (s : Step) (v : V) → i < length ss → s ≡ get_or ss i s → row_from m v (drop i ss) ≡ option_and_then (λ w. row_from m w (drop (i + 1) ss)) (m.joined v (m.step_value s))
+row_more m ss i s v within read =
+    at_drop_more (row_from m v) ss i s within ∙ ap (λ t. option_and_then (λ w. row_from m w (drop (i + 1) ss)) (m.joined v (m.step_value t))) (sym read)
 
 module _ {V : Type 0} {m : Operations V} (laws : Laws m) where
   abbrev value : List Step → Option V

@@ -2,9 +2,12 @@
 use Rattle.std.specs.Prelude.{Bool, Option}
 use Rattle.measures.specs.declared.step.Step.{Step}
 
--- the value of nothing and of a step, the join of two values (none where it does not exist), and whether one is at most the other
 pub record Operations (V : Type 0) : Type 0 where
+  -- the value of no step at all
   pub nothing : V
+  -- the value of one step
   pub step_value : Step → V
+  -- the value of two parts, one after the other; none where it does not exist
   pub joined : V → V → Option V
+  -- whether the first value is at most the second
   pub at_most : V → V → Bool

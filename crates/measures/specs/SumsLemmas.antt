@@ -5,7 +5,7 @@ use Rattle.std.proofs.lemmas.Bool.{le-leb, cond-true}
 use Rattle.measures.specs.declared.step.Step.{Step}
 use Rattle.measures.specs.Bracketing.{Bracketing, one, both, count, evaluated}
 use Rattle.measures.specs.Laws.{longest}
-use Rattle.measures.specs.Sums.{added, summed}
+use Rattle.measures.specs.Sums.{added}
 use Rattle.std.proofs.lemmas.Option.{same_Some, none-some}
 use Rattle.measures.specs.OptionLemmas.{and_then_some}
 
@@ -38,8 +38,8 @@ total_small f h (both l r) = omega (arith, total_small f h l, total_small f h r)
 pub total_fits : (f : Step → ℕ) → Small f → (l r : Bracketing) → count l + count r ≤ longest → added (total f l) (total f r) ≡ Some (total f (both l r))
 total_fits f h l r k = added_fits (total f l) (total f r) (omega (arith, total_small f h l, total_small f h r))
 
--- every long join of small numbers is their sum
-pub sums_exist : (f : Step → ℕ) → Small f → (t : Bracketing) → count t ≤ longest → evaluated (summed f) t ≡ Some (total f t)
-sums_exist f h (one s) k = refl
-sums_exist f h (both l r) k =
-    and_then_some _ (total f l) _ (sums_exist f h l (omega arith)) ∙ and_then_some _ (total f r) _ (sums_exist f h r (omega arith)) ∙ total_fits f h l r k
+-- every long join of small numbers is their sum, whatever the value of nothing and the order
+pub sums_exist : (n : ℕ) (o : ℕ → ℕ → Bool) (f : Step → ℕ) → Small f → (t : Bracketing) → count t ≤ longest → evaluated (record { nothing = n; step_value = f; joined = added; at_most = o }) t ≡ Some (total f t)
+sums_exist n o f h (one s) k = refl
+sums_exist n o f h (both l r) k =
+    and_then_some _ (total f l) _ (sums_exist n o f h l (omega arith)) ∙ and_then_some _ (total f r) _ (sums_exist n o f h r (omega arith)) ∙ total_fits f h l r k

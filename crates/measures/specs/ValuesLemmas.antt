@@ -1,5 +1,5 @@
 -- The laws of dwell and of faults-first.
-use Rattle.std.specs.Prelude.{◌≡◌, ℕ, ◌+◌, ◌<◌, ◌≤◌, true, false, ◌⊎◌, Some, refl}
+use Rattle.std.specs.Prelude.{◌≡◌, ℕ, ◌+◌, ◌<◌, ◌≤◌, Bool, true, false, ◌⊎◌, Some, nat_le, refl}
 use Rattle.std.proofs.Common.{sym, ap, ◌∙◌, arith}
 use Rattle.std.proofs.lemmas.Bool.{leb-true, leb-false, le-leb, lt-leb}
 use Rattle.std.proofs.lemmas.Bool.Decides.{nat_tests}
@@ -7,7 +7,7 @@ use Rattle.measures.specs.declared.faults_first.FaultsFirst.{FaultsFirst}
 use Rattle.measures.specs.Bracketing.{Bracketing, one, both, count, evaluated}
 use Rattle.measures.specs.Laws.{Laws, longest}
 use Rattle.measures.specs.Sums.{added}
-use Rattle.measures.specs.Values.{step_ms, dwell, no_faults, faults_first_joined, faults_first_at_most, faults_first}
+use Rattle.measures.specs.Values.{step_ms, dwell, no_faults, faults_first_step, faults_first_joined, faults_first_at_most, faults_first}
 use Rattle.std.proofs.lemmas.Option.{same_Some}
 use Rattle.measures.specs.OptionLemmas.{and_then_some, and_then_parts}
 use Rattle.measures.specs.SumsLemmas.{added_is, added_fits, total, Small, total_fits, sums_exist}
@@ -29,7 +29,7 @@ dwell_laws = record {
   nothing_least = λ a. le-leb 0 a (omega arith);
   front_keeps = λ a b c x y less e f. lt-leb y x (omega (arith, leb-false b a less, added_is c a x e, added_is c b y f));
   end_keeps = λ a b c x y less e f. lt-leb y x (omega (arith, leb-false b a less, added_is a c x e, added_is b c y f));
-  long_joins = λ t h. (total step_ms t, sums_exist step_ms small_ms t h);
+  long_joins = λ t h. (total step_ms t, sums_exist 0 nat_le step_ms small_ms t h);
 }
 
 -- a ranks before b, or is equal to it
@@ -66,10 +66,11 @@ same_value a b p q = λ i. record { faults = p i; ms = q i }
 abbrev both_totals : Bracketing → FaultsFirst
 both_totals t = record { faults = total (λ s. s.faults) t; ms = total step_ms t }
 
-joins_exist : (t : Bracketing) → count t ≤ longest → evaluated faults_first t ≡ Some (both_totals t)
-joins_exist (one s) h = refl
-joins_exist (both l r) h =
-    and_then_some _ (both_totals l) _ (joins_exist l (omega arith)) ∙ and_then_some _ (both_totals r) _ (joins_exist r (omega arith)) ∙ joined_sums (both_totals l) (both_totals r) _ _ (total_fits (λ s. s.faults) small_faults l r h) (total_fits step_ms small_ms l r h)
+-- a long join exists, whatever the value of nothing and the order
+joins_exist : (n : FaultsFirst) (o : FaultsFirst → FaultsFirst → Bool) (t : Bracketing) → count t ≤ longest → evaluated (record { nothing = n; step_value = faults_first_step; joined = faults_first_joined; at_most = o }) t ≡ Some (both_totals t)
+joins_exist n o (one s) h = refl
+joins_exist n o (both l r) h =
+    and_then_some _ (both_totals l) _ (joins_exist n o l (omega arith)) ∙ and_then_some _ (both_totals r) _ (joins_exist n o r (omega arith)) ∙ joined_sums (both_totals l) (both_totals r) _ _ (total_fits (λ s. s.faults) small_faults l r h) (total_fits step_ms small_ms l r h)
 
 pub faults_first_laws : Laws faults_first
 faults_first_laws = record {
@@ -95,5 +96,5 @@ faults_first_laws = record {
       let p = joined_is a c x e in
       let q = joined_is b c y f in
       below x y (grind arith);
-  long_joins = λ t h. (both_totals t, joins_exist t h);
+  long_joins = λ t h. (both_totals t, joins_exist no_faults faults_first_at_most t h);
 }
