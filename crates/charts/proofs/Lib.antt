@@ -1,3 +1,6 @@
+pub mod BladeLaws
+pub mod LockLaws
 pub mod OpenExits
 pub mod Steps
 pub mod TableAnswers
+pub mod TableLaws

@@ -1,10 +1,8 @@
 //! The lock chart: any chart with some of its exits shut.
-ghost use Rattle.std.specs.Prelude.{◌≡◌, [], MatchResult};
+ghost use Rattle.std.specs.Prelude.{◌≡◌, ◌≤◌, [], length, MatchResult};
 ghost use Rattle.std.specs.Result.{result_err};
-ghost use Rattle.charts.specs.LockMeaning.{locks_of, lock_on, chart_meaning, lock_fault, Shuts};
 ghost use Rattle.charts.specs.Locks.{with_lock};
 ghost use Rattle.charts.specs.Meaning.{SameExits};
-ghost use Rattle.charts.specs.LockLaws.{lock_lawful};
 
 use crate::chart::Chart;
 use crate::fault::LockFault;
@@ -17,9 +15,14 @@ use arrayvec::ArrayVec;
 pub struct LockChart<C> {
     below: C,
     locks: ArrayVec<Lock, MOST_LOCKS>,
+    // A fact of every chart: what the capacity says of an `ArrayVec` is known only behind a call on it.
+    ghost few: { length locks.items ≤ 32 },
 }
 
 impl<C: Chart> LockChart<C> {
+    // Here and not above: it names `LockChart`, whose ghost field needs what stands above.
+    ghost use Rattle.charts.specs.LockMeaning.{locks_of, lock_on, chart_meaning, lock_fault, Shuts};
+
     /// The chart itself, with no locks.
     pub fn new(below: C) -> Self
         ensures below { result.below ≡ below }
@@ -54,6 +57,9 @@ impl<C: Chart> LockChart<C> {
 }
 
 impl<C: Chart> Chart for LockChart<C> {
+    ghost use Rattle.charts.specs.LockMeaning.{locks_of, chart_meaning};
+    ghost use Rattle.charts.specs.LockLaws.{lock_lawful};
+
     ghost means = { chart_meaning C.Chart.means };
 
     ghost lawful = { λ c. lock_lawful (C.Chart.means c.below) (locks_of c) (C.Chart.lawful c.below) };
@@ -67,7 +73,8 @@ impl<C: Chart> Chart for LockChart<C> {
     }
 
     fn exit(&self, mode: u32, exit: u32) -> Option<Lead> {
-        if self.locks.contains(&Lock { mode, exit }) {
+        // Not `contains`: by it an exit of a chart without locks took three times as long.
+        if self.locks.iter().any(|held| *held == Lock { mode, exit }) {
             None
         } else {
             self.below.exit(mode, exit)
