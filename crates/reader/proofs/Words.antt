@@ -1,15 +1,16 @@
 -- The numbers that words and fields write.
-use Rattle.std.proofs.Common.{◌≡◌, ◌≢◌, ℕ, ◌^◌, ◌<◌, ◌≤◌, ◌⊎◌, true, List, [], ◌∷◌, length, get_or, Some, None, Ok, Err, decimal, Option, Result, MatchOption, MatchResult, Bor, sym, ap, ◌∙◌, subst, ⊎_elim, arith}
+use Rattle.std.proofs.Common.{◌≡◌, ℕ, zero, suc, ◌+◌, ◌*◌, ◌^◌, ◌<◌, ◌≤◌, true, List, [], ◌∷◌, length, get_or, drop, Some, None, Ok, Err, decimal, Option, Result, MatchOption, MatchResult, Bor, sym, ap, ◌∙◌, subst, ⊎_elim, arith}
 use Rattle.std.specs.List.{AllByRecursion, list_all}
-use Rattle.std.specs.Option.{option_map}
+use Rattle.std.specs.Option.{SomeIff, option_map}
 use Rattle.std.specs.Result.{result_ok}
 use Rattle.std.specs.Str.{IsUtf8}
-use Rattle.std.specs.Str.Parse.{AllDigits, digits_value, ParsesUnsigned}
+use Rattle.std.specs.Str.Parse.{AllDigits, digits_value, digits_value_after}
 use Rattle.std.specs.Char.{digit_value}
-use Rattle.std.proofs.lemmas.Fmt.{decimal_digit, first_decimal, digits_decimal, decimal-digits_value, decimal_injective, parse-decimal, IsAscii-decimal}
+use Rattle.std.proofs.lemmas.Fmt.{decimal_nonempty, decimal_digit, first_decimal, digits_decimal, digits_value-decimal, decimal-digits_value, decimal_injective}
 use Rattle.std.proofs.lemmas.Bool.Decides.{nat_tests}
 use Rattle.std.proofs.lemmas.Str.{IsUtf8-from_ascii}
-use Rattle.std.proofs.lemmas.Str.Parse.{IsNumeralModel, numerals_by_value, tells_digits, parse_plain}
+use Rattle.std.proofs.lemmas.Str.Parse.{IsNumeralModel, numerals_by_value, tells_digits}
+use Rattle.std.proofs.lemmas.List.{at_drop_more}
 use Rattle.std.proofs.lemmas.List.Elements.{recursion_from_All}
 use Rattle.std.proofs.lemmas.List.Sums.{AllPass-from_list_all}
 use Rattle.std.proofs.ByRecursion.{All-weaker, IsAscii-from_all}
@@ -21,6 +22,16 @@ use Rattle.reader.proofs.Cuts.{cut_once, not_free}
 
 own : IsNumeralModel (AllDigits 10) (digits_value 10)
 own = numerals_by_value (AllDigits 10) tells_digits
+
+-- more digits make no smaller number
+pub value_grows : (n : ℕ) (ds : List ℕ) → n ≤ digits_value_after 10 n ds
+value_grows n [] = omega arith
+value_grows n (c ∷ cs) = omega (arith, value_grows (n * 10 + digit_value c) cs)
+
+pub digit_at : (ds : List ℕ) (i : ℕ) → AllDigits 10 ds → i < length ds → digit_value (get_or ds i 0) < 10
+digit_at [] i p l = absurd (omega arith)
+digit_at (c ∷ cs) zero p l = p.0
+digit_at (c ∷ cs) (suc i) p l = digit_at cs i p.1 (omega arith)
 
 -- what is no digit stands in no row of digits
 free_digits : (e : ℕ) (ds : List ℕ) → 10 ≤ digit_value e → AllDigits 10 ds → Free e ds
@@ -38,25 +49,25 @@ pub utf8_ok : {E : Type 0} (bs : List ℕ) (Q : E → Type 0) (r : Result (Bor (
 utf8_ok bs Q (Ok s) o h e = rw e (h.0)
 utf8_ok bs Q (Err x) o h e = rw e (h.0)
 
--- a word that begins with no plus sign, and with a zero only if that is all of it, is read as the library reads it
-pub number_read : {E : Type 0} (word : List ℕ) (p : Result ℕ E) → (get_or word 0 0 ≢ 43) × (1 < length word → get_or word 0 0 ≢ 48) → ParsesUnsigned 32 10 word p → Reads number_form word (result_ok p)
-number_read word (Err e) lead h = λ n l t. let r = parse-decimal 32 n word (Err e) l (omega arith) (sym t) h in cc
-number_read {E} word (Ok n) lead h =
-    let r = parse_plain own {E = E} 32 word (Ok n) h lead.0 in
-    let small = r.0.2 in
-    let unled : get_or word 0 0 ≡ 48 → length word ≡ 1 = λ z. ⊎_elim (λ (long : 1 < length word). absurd (lead.1 long z)) (λ (short : length word ≤ 1). let some = r.0.1 in omega arith) (order 1 (length word)) in
-    ((let is = r.1 in omega arith), ap decimal r.1 ∙ decimal-digits_value own word r.0.0 r.0.1 unled (omega arith))
+-- a word of digits without a leading zero is read as its value
+pub number_read : (word : List ℕ) (r : Option ℕ) → 0 < length word → (get_or word 0 0 ≡ 48 → length word ≡ 1) → SomeIff r (AllDigits 10 word × (digits_value 10 word < 2 ^ 32)) (digits_value 10 word) → Reads number_form word r
+number_read word None some lead h = λ n l e.
+    let d : AllDigits 10 word = subst (AllDigits 10) e (digits_decimal own n (omega arith)) in
+    let v : digits_value 10 word ≡ n = sym (ap (digits_value 10) e) ∙ digits_value-decimal own n (omega arith) in
+    h (d, omega arith)
+number_read word (Some n) some lead h =
+    let l = h.0.1 in
+    let e = h.1 in
+    (omega arith, ap decimal e ∙ decimal-digits_value own word h.0.0 some lead (omega arith))
 
-pub no_number_text : (word : List ℕ) → (IsUtf8 word → ⊥) → Reads number_form word None
-no_number_text word h n l e = h (subst IsUtf8 e (IsUtf8-from_ascii _ (IsAscii-decimal n (omega arith))))
+pub no_number_empty : (word : List ℕ) → length word ≡ 0 → Reads number_form word None
+no_number_empty word z n l e = omega (arith, decimal_nonempty n (omega arith), ap length e)
 
--- no number begins with a plus sign, or with a zero and goes on
-pub no_number_lead : (word : List ℕ) → (get_or word 0 0 ≡ 43) ⊎ ((1 < length word) × (get_or word 0 0 ≡ 48)) → Reads number_form word None
-no_number_lead word lead n l e =
-    let g : get_or (decimal n) 0 0 ≡ get_or word 0 0 = ap (λ w. get_or w 0 0) e in
+pub no_number_zero : (word : List ℕ) → get_or word 0 0 ≡ 48 → 1 < length word → Reads number_form word None
+no_number_zero word z long n l e =
     ⊎_elim
-    (λ (p : 0 < n). let f = first_decimal n p (omega arith) in omega arith)
-    (λ (p : n ≤ 0). let d = decimal_digit n (omega arith) in omega (arith, ap length d, ap length e, ap (λ w. get_or w 0 0) d))
+    (λ p. omega (arith, first_decimal n p (omega arith), ap (λ w. get_or w 0 0) e))
+    (λ p. omega (arith, ap length (decimal_digit n (omega arith)), ap length e))
     (order 0 n)
 
 pub field_once : (line : List ℕ) (m n : ℕ) (s t : List ℕ) → Field line m s → Field line n t → (m ≡ n) × (s ≡ t)
@@ -74,11 +85,19 @@ no_field_word line word rest c unread n t f =
     let r = cut_once 32 (decimal n) word t rest (free_number 32 n (omega arith) f.0) c.0 (f.1 ∙ c.1) in
     unread n f.0 r.0
 
+-- one more digit read: what is left still gives the word's value, which is at least what was read
+pub value_more : (word : List ℕ) (i n : ℕ) → i < length word → digits_value_after 10 n (drop i word) ≡ digits_value 10 word → digits_value_after 10 (n * 10 + digit_value (get_or word i 0)) (drop (i + 1) word) ≡ digits_value 10 word
+value_more word i n l e = sym (at_drop_more (digits_value_after 10 n) word i 0 l) ∙ e
+
+pub value_least : (word : List ℕ) (i n : ℕ) → i < length word → digits_value_after 10 n (drop i word) ≡ digits_value 10 word → n * 10 + digit_value (get_or word i 0) ≤ digits_value 10 word
+value_least word i n l e =
+    omega (arith, value_more word i n l e, value_grows (n * 10 + digit_value (get_or word i 0)) (drop (i + 1) word))
+
 -- what stands behind a letter's field
 pub letter_once : (line : List ℕ) (l m : Letter) (s t : List ℕ) → LetterField line l s → LetterField line m t → s ≡ t
 letter_once line l m s t f g = cc
 
-name_byte_ascii : (b : ℕ) → name_byte b ≡ true → b < 128
+pub name_byte_ascii : (b : ℕ) → name_byte b ≡ true → b < 128
 name_byte_ascii b e = grind (arith, nat_tests)
 
 -- a name is text
