@@ -73,7 +73,7 @@ impl<C: Chart> Chart for LockChart<C> {
     }
 
     fn exit(&self, mode: u32, exit: u32) -> Option<Lead> {
-        // Not `contains`: by it an exit of a chart without locks took three times as long.
+        // Not `contains`: with it an exit took up to three times as long.
         if self.locks.iter().any(|held| *held == Lock { mode, exit }) {
             None
         } else {
