@@ -15,12 +15,12 @@ use arrayvec::ArrayVec;
 pub struct LockChart<C> {
     below: C,
     locks: ArrayVec<Lock, MOST_LOCKS>,
-    // A fact of every chart: what the capacity says of an `ArrayVec` is known only behind a call on it.
+    // Said here, since a clause sees an `ArrayVec` as a list: its capacity is known only behind a call on it.
     ghost few: { length locks.items ≤ 32 },
 }
 
 impl<C: Chart> LockChart<C> {
-    // Here and not above: it names `LockChart`, whose ghost field needs what stands above.
+    // In the `impl`s and not at the head of the file, whose imports the ghost field has too: these name `LockChart`, and would go in a circle.
     ghost use Rattle.charts.specs.LockMeaning.{locks_of, lock_on, chart_meaning, lock_fault, Shuts};
 
     /// The chart itself, with no locks.
@@ -73,7 +73,7 @@ impl<C: Chart> Chart for LockChart<C> {
     }
 
     fn exit(&self, mode: u32, exit: u32) -> Option<Lead> {
-        // Not `contains`: with it an exit took up to three times as long.
+        // Not `contains`: with it an exit took up to twice as long, though less without a lock in one caller.
         if self.locks.iter().any(|held| *held == Lock { mode, exit }) {
             None
         } else {

@@ -23,7 +23,7 @@ pub(crate) fn number(word: &[u8]) -> Option<u32>
 }
 
 /// The value of a row of digits, where it fits 32 bits.
-// Not `str::parse`, before which each word would be tested for UTF-8: a file of short words took two thirds longer by it.
+// Not `str::parse`, before which each word would be tested for UTF-8: with it the program ran half as many instructions again on a file of short words.
 fn digits_value(word: &[u8]) -> Option<u32>
     ensures { SomeIff result (AllDigits 10 word.now × (digits_value 10 word.now < 2 ^ 32)) (digits_value 10 word.now) }
 {

@@ -8,6 +8,7 @@ use Rattle.charts.specs.LockMeaning.{locks_of}
 use Rattle.charts.specs.declared.locks.Lock.{Lock}
 use Rattle.charts.proofs.lock.LockChartChart.exit.Goals as goal
 
+-- where the search finds no lock, none is on the exit
 none : (test : Lock → Bool) (ls : List Lock) (r : Bool) → r ≡ false → MatchBool r ((k : ℕ) × (k < length ls) × HoldsAt (λ l. Unit {0}) ls k) (AllWithin (λ l. test l ≡ false) ls 0 (length ls)) → list_any test ls ≡ false
 none test ls false e all = list_any_none test ls (All-from_all_within (λ l. test l ≡ false) ls all)
 none test ls true e all = cc
